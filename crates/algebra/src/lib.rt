@@ -1,0 +1,1 @@
+// Laws of whole numbers only: see specs/.
