@@ -1,0 +1,103 @@
+-- Document 01's examples as one table under one theorem, the marked ones first. Plans are (r, b, a, K).
+--   Example         a call's inputs, and last what must come out
+--   Holds e         the whole outcome of the call is that: its answer, and what it leaves in every slice
+--   examples-hold   every row of the table holds
+use Prim.Native.Nat.{ℕ, _*_}
+use Prim.Native.String.{String}
+use mathlib.Core.Path.{_≡_, refl}
+use mathlib.Core.Bool.{false}
+use mathlib.Core.List.{List, [], _∷_, _++_, map}
+use lib.ListN.{length, set}
+use lib.IntN.{ℤ, pos, negℤ}
+use Rattle.algebra.specs.Within.{sumWithin}
+use Rattle.meaning.specs.Extension.{emod, reflect, fold, ext}
+use Rattle.meaning.specs.Kernel.{Stage, plan, tap, kernel, width, reach, tapSum, divisor}
+use Rattle.meaning.specs.Smoothing.{listOf, result, results, weight, near, pixel, grid, picture}
+use Rattle.meaning.specs.Refusals.{Answer, firstOf, firstWhere, rowAt, some, planRows, sizeRows, commonRows, seriesOf, ifDone, zeros}
+use Rattle.meaning.specs.Values.{nearest, outputRows, converted, wholeOut}
+use Rattle.meaning.specs.Calls.{smoothRows, smoothed, smoothSeries, smoothPicture, gained, editRows, countWhere, changed, editSeries}
+use Rattle.meaning.specs.Planner.{largest, radiusFor, edgeFor, planFor}
+use Rattle.meaning.specs.Record.{bytes, number, sampleAt, begins, reading, readRecord}
+use Rattle.meaning.specs.Program.{text, digits, decimal, firstLine, resultLines, report, program}
+
+data Example : Type 0 where
+  -- plan, samples; results
+  series : List Stage → List ℤ → List ℤ → Example
+  -- plans across and down, width, height, samples; results
+  raster : List Stage → List Stage → ℕ → ℕ → List ℤ → List ℤ → Example
+  -- plan, samples, position, new value; results, count
+  edit : List Stage → List ℤ → ℕ → ℤ → List ℤ → ℕ → Example
+  -- sigma in hundredths, passes, inner weight; radius, edge weight
+  planner : ℕ → ℕ → ℕ → ℕ → ℕ → Example
+  -- plan, samples; whole output
+  whole : List Stage → List ℤ → List ℤ → Example
+  -- plan; divisor
+  divided : List Stage → ℕ → Example
+  -- plan, bound; number
+  bounded : List Stage → ℕ → ℕ → Example
+  -- the job's bytes; what the program prints
+  job : List ℕ → String → Example
+
+abbrev done : Answer
+done = record { number = 0; position = 0 }
+
+-- The bound is 9. The slices lent for results, work and cells hold the samples at first.
+abbrev Holds : Example → Type 0
+Holds (series ss f r) = smoothSeries fold ss 9 f f f ≡ record { answer = done; results = r; work = zeros f }
+Holds (raster hs vs W H f r) = smoothPicture fold fold hs vs 9 W H f f f ≡ record { answer = done; results = r; work = zeros f }
+Holds (edit ss f p v r n) = editSeries fold ss 9 p v f (results fold ss f) (f ++ f) ≡ record { answer = done; count = n; samples = set f p v; results = r; work = zeros (f ++ f) }
+Holds (planner s K b r a) = planFor s K b ≡ record { answer = done; radius = r; edge = a }
+Holds (whole ss f c) = wholeOut (seriesOf ss (length f)) 9 (results fold ss f) f ≡ record { answer = done; cells = c }
+Holds (divided ss d) = divisor ss ≡ d
+Holds (bounded ss M n) = firstOf (commonRows (seriesOf ss 1) M false) ≡ record { number = n; position = 0 }
+Holds (job s t) = program s ≡ text t
+
+abbrev plus : List ℕ → List ℤ
+plus = map pos
+
+abbrev minus : List ℕ → List ℤ
+minus = map (λ n. negℤ (pos n))
+
+examples : List Example
+examples =
+    series (plan 1 1 0 1) (plus (5 ∷ [])) (plus (15 ∷ []))
+    ∷ series (plan 1 1 0 1) (plus (0 ∷ 0 ∷ 9 ∷ 0 ∷ 0 ∷ [])) (plus (0 ∷ 9 ∷ 9 ∷ 9 ∷ 0 ∷ []))
+    ∷ series (plan 1 1 0 2) (plus (0 ∷ 0 ∷ 9 ∷ 0 ∷ 0 ∷ [])) (plus (9 ∷ 18 ∷ 27 ∷ 18 ∷ 9 ∷ []))
+    ∷ series (plan 1 2 1 1) (plus (8 ∷ 0 ∷ 0 ∷ [])) (plus (32 ∷ 24 ∷ 8 ∷ []))
+    ∷ series (plan 3 1 0 1) (plus (1 ∷ 2 ∷ [])) (plus (11 ∷ 10 ∷ []))
+    ∷ series (plan 0 3 1 2) (plus (1 ∷ 0 ∷ [])) (plus (17 ∷ 8 ∷ []))
+    ∷ series (plan 0 3 1 2) (plus (7 ∷ 7 ∷ 7 ∷ [])) (plus (175 ∷ 175 ∷ 175 ∷ []))
+    ∷ raster (plan 0 3 1 1) (plan 0 3 1 1) 2 2 (plus (1 ∷ 0 ∷ 0 ∷ 0 ∷ [])) (plus (16 ∷ 4 ∷ 4 ∷ 1 ∷ []))
+    ∷ edit (plan 1 1 0 1) (plus (0 ∷ 0 ∷ 9 ∷ 0 ∷ 0 ∷ [])) 4 (pos 3) (plus (0 ∷ 9 ∷ 9 ∷ 12 ∷ 6 ∷ [])) 2
+    ∷ planner 500 3 16 4 7
+    ∷ planner 100 3 16 0 4
+    ∷ planner 200 1 16 3 0
+    ∷ series (plan 1 2 1 1) (plus (4 ∷ 0 ∷ 0 ∷ [])) (plus (16 ∷ 12 ∷ 4 ∷ []))
+    ∷ whole (plan 1 2 1 1) (plus (4 ∷ 0 ∷ 0 ∷ [])) (plus (2 ∷ 2 ∷ 1 ∷ []))
+    ∷ whole (plan 1 2 1 1) (minus (4 ∷ 0 ∷ 0 ∷ [])) (minus (2 ∷ 1 ∷ 0 ∷ []))
+    ∷ divided (plan 1 2 1 8) 16777216
+    ∷ bounded (plan 1 2 1 8) 536870911 0
+    ∷ bounded (plan 1 2 1 8) 536870912 6
+    ∷ job
+    (0x01 ∷ 0x00 ∷ 0x02 ∷ 0x00 ∷ 0x01
+    ∷ 0x02 ∷ 0x00 ∷ 0x01 ∷ 0x02
+    ∷ 0x03 ∷ 0x00 ∷ 0x01 ∷ 0x01
+    ∷ 0x04 ∷ 0x00 ∷ 0x01 ∷ 0x01
+    ∷ 0x05 ∷ 0x00 ∷ 0x04 ∷ 0x00 ∷ 0x00 ∷ 0x00 ∷ 0x08
+    ∷ 0x06 ∷ 0x00 ∷ 0x0C ∷ 0x00 ∷ 0x00 ∷ 0x00 ∷ 0x08 ∷ 0x00 ∷ 0x00 ∷ 0x00 ∷ 0x00 ∷ 0x00 ∷ 0x00 ∷ 0x00 ∷ 0x00 ∷ [])
+    "smooth 0 8 3\n0 32\n1 24\n2 8\n"
+    ∷ []
+
+infixr 5 _and_
+data Every : List Example → Type 0 where
+  none : Every []
+  _and_ : {e : Example} {es : List Example} → Holds e → Every es → Every (e ∷ es)
+
+examples-hold : Every examples
+unfolding examples sumWithin emod reflect fold ext tap kernel width reach tapSum divisor listOf result results weight near pixel grid picture
+    firstOf firstWhere rowAt some planRows sizeRows ifDone nearest outputRows converted smoothRows smoothed gained editRows countWhere changed editSeries
+    largest radiusFor edgeFor planFor bytes number sampleAt begins reading readRecord text digits decimal firstLine resultLines report program
+examples-hold =
+    refl and refl and refl and refl and refl and refl and refl
+    and refl and refl and refl and refl and refl
+    and refl and refl and refl and refl and refl and refl and refl and none

@@ -1,0 +1,23 @@
+-- What Dungdapple promises, in the order to read it. Document 01 is the page behind each definition.
+--   Limits      the numbers of the table of bounds
+--   Extension   a series beyond its ends
+--   Kernel      plans, tap row, K-fold kernel, divisor, reach
+--   Smoothing   results of a series and of a picture; the weight of a sample in a result
+--   Refusals    the table of numbers, and the lowest that applies
+--   Calls       smoothing a series and a picture, an edit, a point: what each answers and leaves
+--   Values      doubles in; whole numbers, doubles and summary out
+--   Planner     from standard deviation to radius and edge weight
+--   Record      the job record: reader and writer
+--   Program     what `smooth` prints
+--   Examples    the page's examples, one table under one theorem
+pub mod Limits
+pub mod Extension
+pub mod Kernel
+pub mod Smoothing
+pub mod Refusals
+pub mod Calls
+pub mod Values
+pub mod Planner
+pub mod Record
+pub mod Program
+pub mod Examples

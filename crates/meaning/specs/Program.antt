@@ -1,0 +1,54 @@
+-- What the program `smooth` prints, as bytes, for the bytes of standard input.
+--   text "ab"     the bytes of a text
+--   decimal z     digits, with a sign where z is negative
+--   program s     the whole text
+use Prim.Native.Nat.{ℕ, zero, suc, _+_, _/_, _%_}
+use Prim.Native.Char.{code}
+use Prim.Native.String.{String}
+use mathlib.Core.Bool.{cond, _||_}
+use mathlib.Core.List.{List, [], _∷_, _++_}
+use lib.Dec.{ltb}
+use lib.ListN.{length, drop, replicate}
+use lib.IntN.{ℤ, pos, negsuc}
+use Rattle.meaning.specs.Limits.{maxJob}
+use Rattle.meaning.specs.Extension.{fold}
+use Rattle.meaning.specs.Kernel.{plan, divisor}
+use Rattle.meaning.specs.Smoothing.{listOf}
+use Rattle.meaning.specs.Refusals.{Answer, ifDone}
+use Rattle.meaning.specs.Calls.{Smoothed, smoothSeries}
+use Rattle.meaning.specs.Record.{Job, readRecord, sampleAt}
+
+unfoldable pub text : String → List ℕ
+text String.[] = []
+text (String._∷_ c s) = code c ∷ text s
+
+-- of a number below 10^n
+unfoldable pub digits : ℕ → ℕ → List ℕ
+digits zero x = []
+digits (suc n) x = cond (ltb x 10) [] (digits n (x / 10)) ++ ((code "0" + x % 10) ∷ [])
+
+-- no number printed has more than 20 digits
+unfoldable pub decimal : ℤ → List ℕ
+decimal (pos n) = digits 20 n
+decimal (negsuc n) = text "-" ++ digits 20 (suc n)
+
+unfoldable pub firstLine : ℕ → ℕ → ℕ → List ℕ
+firstLine a b c = text "smooth " ++ decimal (pos a) ++ text " " ++ decimal (pos b) ++ text " " ++ decimal (pos c) ++ text "\n"
+
+-- "Then index and result.": from index i on
+unfoldable pub resultLines : ℕ → List ℤ → List ℕ
+resultLines i [] = []
+resultLines i (z ∷ zs) = decimal (pos i) ++ text " " ++ decimal z ++ text "\n" ++ resultLines (suc i) zs
+
+-- "First line: name, number, divisor, sample count." "A refusal prints one line: name, number, position, 0."
+unfoldable pub report : ℕ → Smoothed → List ℕ
+report D o = ifDone (o .answer) (firstLine 0 D (length (o .results)) ++ resultLines 0 (o .results)) (firstLine (o .answer .number) (o .answer .position) 0)
+
+unfoldable pub program : List ℕ → List ℕ
+program s =
+    let j = readRecord s in
+    let N = j .size / 4 in
+    let ss = plan (j .radius) (j .inner) (j .edge) (j .passes) in
+    let room = replicate N (pos 0) in
+    let o = smoothSeries fold ss (j .bound) (listOf N (sampleAt (drop (j .start) s))) room room in
+    cond (ltb maxJob (length s) || ltb 0 (j .refusal)) (firstLine 14 0 0) (report (divisor ss) o)

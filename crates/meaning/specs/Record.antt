@@ -1,0 +1,85 @@
+-- The job record, a list of bytes.
+--   bytes n x      the n low bytes of x, high byte first;  number bs  what bytes stand for, the same way
+--   field t v      "one-byte tag, two-byte length, value"
+--   recordOf       the record of radius, inner and edge weight, passes, bound and samples
+--   readRecord     the reader's outcome: the numbers, and the stretch of the record that holds the samples
+--   writeRecord    the writer's: the answer, and the lent slice afterwards
+use Prim.Native.Nat.{ℕ, zero, suc, _+_, _-_, _*_, _/_, _%_, _^_}
+use mathlib.Core.Bool.{Bool, cond, not, _&&_}
+use mathlib.Core.List.{List, [], _∷_, _++_, foldr}
+use lib.Dec.{leb, eqb}
+use lib.ListN.{length, take, drop}
+use lib.IntN.{ℤ}
+use mir.Syntax.{w32}
+use mir.Val.{ofZ, toZ}
+use Rattle.meaning.specs.Limits.{maxSamples}
+use Rattle.meaning.specs.Refusals.{Answer, _when_, firstOf, outside, differs, ifDone}
+
+unfoldable pub bytes : ℕ → ℕ → List ℕ
+bytes zero x = []
+bytes (suc n) x = (x / 256 ^ n % 256) ∷ bytes n x
+
+unfoldable pub number : List ℕ → ℕ
+number [] = 0
+number (b ∷ bs) = b * 256 ^ length bs + number bs
+
+unfoldable pub field : ℕ → List ℕ → List ℕ
+field tag value = tag ∷ bytes 2 (length value) ++ value
+
+-- "6 samples (4 each, two's complement ..)"
+unfoldable pub sampleBytes : List ℤ → List ℕ
+sampleBytes [] = []
+sampleBytes (z ∷ f) = bytes 4 (ofZ w32 z) ++ sampleBytes f
+
+-- sample i of a stretch of samples
+unfoldable pub sampleAt : List ℕ → ℕ → ℤ
+sampleAt s i = toZ w32 (number (take 4 (drop (4 * i) s)))
+
+-- "Fields in this order, each once"
+unfoldable pub recordOf : ℕ → ℕ → ℕ → ℕ → ℕ → List ℤ → List ℕ
+recordOf r b a K M f = field 1 (bytes 2 r) ++ field 2 (bytes 1 b) ++ field 3 (bytes 1 a) ++ field 4 (bytes 1 K) ++ field 5 (bytes 4 M) ++ field 6 (sampleBytes f)
+
+pub record Job : Type 0 where
+  pub refusal : ℕ
+  pub radius : ℕ
+  pub inner : ℕ
+  pub edge : ℕ
+  pub passes : ℕ
+  pub bound : ℕ
+  pub start : ℕ
+  pub size : ℕ
+
+-- "at 14 the numbers are 0 and the stretch is empty"
+abbrev pub notWellFormed : Job
+notWellFormed = record { refusal = 14; radius = 0; inner = 0; edge = 0; passes = 0; bound = 0; start = 0; size = 0 }
+
+-- s begins with a field of this tag and n bytes
+unfoldable pub begins : ℕ → ℕ → List ℕ → Bool
+begins tag n s = eqb (number (take 1 s)) tag && eqb (number (take 2 (drop 1 s))) n && leb (3 + n) (length s)
+
+-- on with the number in the field that s must begin with, and with what stands behind the field
+unfoldable pub reading : ℕ → ℕ → List ℕ → (ℕ → List ℕ → Job) → Job
+reading tag n s next = cond (begins tag n s) (next (number (take n (drop 3 s))) (drop (3 + n) s)) notWellFormed
+
+-- "Other tags, orders, lengths or trailing bytes are 14."
+unfoldable pub readRecord : List ℕ → Job
+readRecord s =
+    reading 1 2 s λ r s₁.
+    reading 2 1 s₁ λ b s₂.
+    reading 3 1 s₂ λ a s₃.
+    reading 4 1 s₃ λ K s₄.
+    reading 5 4 s₄ λ M s₅.
+    let n = length s₅ - 3 in
+    let good = begins 6 n s₅ && eqb (n % 4) 0 && not (outside 1 maxSamples (n / 4)) in
+    cond good (record { refusal = 0; radius = r; inner = b; edge = a; passes = K; bound = M; start = length s - n; size = n }) notWellFormed
+
+pub record Written : Type 0 where
+  pub answer : Answer
+  pub slice : List ℕ
+
+-- "refuses with 7 for a sample count it cannot hold, with 8 for a slice not of the exact record length"
+unfoldable pub writeRecord : ℕ → ℕ → ℕ → ℕ → ℕ → List ℤ → List ℕ → Written
+writeRecord r b a K M f old =
+    let new = recordOf r b a K M f in
+    let answer = firstOf ((7 when outside 1 maxSamples (length f)) ∷ (8 when differs (length old) (length new)) ∷ []) in
+    record { answer = answer; slice = ifDone answer new old }

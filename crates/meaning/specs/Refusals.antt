@@ -1,0 +1,97 @@
+-- The table of numbers. A call's rows stand in rising order, and it answers the first that applies.
+--   firstOf rows       "The lowest number that applies to the call is given"; 0, done, where none does
+--   n when b           row n, with position 0
+--   rowAt n N t        row n, with the first of the indices 0 .. N - 1 that t finds offending
+--   commonRows s M b   rows 1 to 8 of a series or picture s under bound M; b says that a lent slice is not the asked length
+--   ifDone a new old   new where a is done, old where it is refused
+use Prim.Native.Nat.{ℕ, zero, suc, _*_}
+use mathlib.Core.Bool.{Bool, true, false, cond, not, _||_}
+use mathlib.Core.List.{List, [], _∷_, _++_}
+use lib.Dec.{leb, ltb, eqb}
+use lib.ListN.{length, replicate}
+use lib.IntN.{ℤ, pos, natAbs}
+use Rattle.meaning.specs.Limits.{maxPasses, maxRadius, maxInner, maxBound, maxResult, maxLength, maxSide}
+use Rattle.meaning.specs.Kernel.{Stage, divisor}
+
+pub record Answer : Type 0 where
+  pub number : ℕ
+  pub position : ℕ
+
+pub record Row : Type 0 where
+  pub answer : Answer
+  pub applies : Bool
+
+unfoldable pub firstOf : List Row → Answer
+firstOf [] = record { number = 0; position = 0 }
+firstOf (row ∷ rows) = cond (row .applies) (row .answer) (firstOf rows)
+
+infix 3 _when_
+abbrev pub _when_ : ℕ → Bool → Row
+n when b = record { answer = record { number = n; position = 0 }; applies = b }
+
+-- the first of 0 .. N - 1 where the test is true; N where there is none
+unfoldable pub firstWhere : ℕ → (ℕ → Bool) → ℕ
+firstWhere zero test = 0
+firstWhere (suc N) test = cond (test 0) 0 (suc (firstWhere N (λ i. test (suc i))))
+
+unfoldable pub rowAt : ℕ → ℕ → (ℕ → Bool) → Row
+rowAt n N test = record { answer = record { number = n; position = firstWhere N test }; applies = ltb (firstWhere N test) N }
+
+-- is the test true of one of them?
+unfoldable pub some : {A : Type 0} → (A → Bool) → List A → Bool
+some test [] = false
+some test (x ∷ xs) = test x || some test xs
+
+abbrev pub outside : ℕ → ℕ → ℕ → Bool
+outside low high x = ltb x low || ltb high x
+
+abbrev pub differs : ℕ → ℕ → Bool
+differs n asked = not (eqb n asked)
+
+-- of size above M
+abbrev pub above : ℕ → ℤ → Bool
+above M z = ltb M (natAbs z)
+
+-- A series or a picture: its plans, one or two; how many cells it has; whether row 7 refuses its sizes.
+pub record Shape : Type 0 where
+  pub plans : List (List Stage)
+  pub divisor : ℕ
+  pub cells : ℕ
+  pub badSize : Bool
+
+abbrev pub seriesOf : List Stage → ℕ → Shape
+seriesOf ss N = record { plans = ss ∷ []; divisor = divisor ss; cells = N; badSize = outside 1 maxLength N }
+
+abbrev pub pictureOf : List Stage → List Stage → ℕ → ℕ → Shape
+pictureOf hs vs W H = record {
+  plans = hs ∷ vs ∷ [];
+  divisor = divisor hs * divisor vs;
+  cells = W * H;
+  badSize = outside 1 maxSide W || outside 1 maxSide H || ltb maxLength (W * H);
+}
+
+unfoldable pub planRows : List (List Stage) → List Row
+planRows ps =
+    (1 when some (λ ss. outside 1 maxPasses (length ss)) ps)
+    ∷ (2 when some (some (λ s. ltb maxRadius (s .radius))) ps)
+    ∷ (3 when some (some (λ s. outside 1 maxInner (s .inner))) ps)
+    ∷ (4 when some (some (λ s. leb (s .inner) (s .edge))) ps)
+    ∷ []
+
+unfoldable pub sizeRows : Shape → ℕ → Bool → List Row
+sizeRows s M lengths =
+    (5 when outside 1 maxBound M)
+    ∷ (6 when ltb maxResult (M * s .divisor))
+    ∷ (7 when s .badSize)
+    ∷ (8 when lengths)
+    ∷ []
+
+abbrev pub commonRows : Shape → ℕ → Bool → List Row
+commonRows s M lengths = planRows (s .plans) ++ sizeRows s M lengths
+
+unfoldable pub ifDone : {A : Type 0} → Answer → A → A → A
+ifDone a new old = cond (eqb (a .number) 0) new old
+
+-- "Work slices hold zeros after a completed call."
+abbrev pub zeros : List ℤ → List ℤ
+zeros w = replicate (length w) (pos 0)

@@ -1,0 +1,98 @@
+-- Values in and out. A series of N gives the shape `seriesOf ss N`, a picture `pictureOf hs vs W H`.
+--   nearest z d   z over d to the nearest whole number, a half upward
+--   ratio z d     z over d as a double
+--   takes M x     the double x is a sample under bound M
+--   doublesIn     bound; slices doubles, samples
+--   wholeOut, doublesOut, summary   shape, bound; slices results and, but for the summary, cells
+use Prim.Native.Nat.{ℕ, _*_, _/_, _%_}
+use mathlib.Core.Bool.{Bool, true, false, not, _&&_, _||_}
+use mathlib.Core.List.{List, [], _∷_, _++_, map}
+use lib.Dec.{leb, eqb}
+use lib.ListN.{length, getD}
+use lib.IntN.{ℤ, pos, _+ℤ_, _*ℤ_}
+use lib.Signed.{ltZ, shrZ}
+use lib.Ieee.{Float, nan, inf, fin, binary64, ofInt, div, toSigned, up, down}
+use Rattle.meaning.specs.Limits.{maxBound, maxLength}
+use Rattle.meaning.specs.Extension.{at}
+use Rattle.meaning.specs.Refusals.{Answer, Row, _when_, firstOf, firstWhere, rowAt, some, outside, differs, above, Shape, commonRows, ifDone}
+
+-- rounded down, negative numbers too
+abbrev pub floor : ℤ → ℕ → ℤ
+floor z d = shrZ z d
+
+-- "results over the divisor, to nearest, a half going upward"
+unfoldable pub nearest : ℤ → ℕ → ℤ
+nearest z d = floor (pos 2 *ℤ z +ℤ pos d) (2 * d)
+
+-- "the single division of two exactly converted numbers"; both are below 2^53, and 0 gives plus zero
+unfoldable pub ratio : ℤ → ℕ → Float
+ratio z d = div binary64 (ofInt binary64 z) (ofInt binary64 (pos d))
+
+abbrev pub plusZero : Float
+plusZero = fin false 0 (pos 0)
+
+-- "accepted when finite, whole and of size at most M": a finite one is n times up e over down e
+unfoldable pub takes : ℕ → Float → Bool
+takes M nan = false
+takes M (inf s) = false
+takes M (fin s n e) = eqb (n * up e % down e) 0 && leb (n * up e / down e) M
+
+pub record Converted (A : Type 0) : Type 0 where
+  pub answer : Answer
+  pub cells : List A
+
+-- "Checks are 5, 7, 8, 11."
+unfoldable pub doubleRows : ℕ → List Float → ℕ → List Row
+doubleRows M xs n =
+    (5 when outside 1 maxBound M)
+    ∷ (7 when outside 1 maxLength (length xs))
+    ∷ (8 when differs n (length xs))
+    ∷ rowAt 11 (length xs) (λ i. not (takes M (getD xs i nan)))
+    ∷ []
+
+-- "minus zero becomes 0": a signed 32-bit number has no other zero
+unfoldable pub doublesIn : ℕ → List Float → List ℤ → Converted ℤ
+doublesIn M xs f =
+    let a = firstOf (doubleRows M xs (length f)) in
+    record { answer = a; cells = ifDone a (map (toSigned 31) xs) f }
+
+-- "test 1 to 8, and 12 over all results"
+unfoldable pub outputRows : Shape → ℕ → Bool → List ℤ → List Row
+outputRows s M lengths r = commonRows s M lengths ++ rowAt 12 (length r) (λ i. above (M * s .divisor) (at r i)) ∷ []
+
+unfoldable pub converted : {A : Type 0} → (ℤ → A) → Shape → ℕ → List ℤ → List A → Converted A
+converted g s M r cells =
+    let a = firstOf (outputRows s M (differs (length r) (s .cells) || differs (length cells) (s .cells)) r) in
+    record { answer = a; cells = ifDone a (map g r) cells }
+
+abbrev pub wholeOut : Shape → ℕ → List ℤ → List ℤ → Converted ℤ
+wholeOut s = converted (λ z. nearest z (s .divisor)) s
+
+abbrev pub doublesOut : Shape → ℕ → List ℤ → List Float → Converted Float
+doublesOut s = converted (λ z. ratio z (s .divisor)) s
+
+-- "lowest and highest are chosen among the whole results": the first that none is below, that none is above
+unfoldable pub lowestIn : List ℤ → ℕ
+lowestIn r = firstWhere (length r) (λ i. not (some (λ z. ltZ z (at r i)) r))
+
+unfoldable pub highestIn : List ℤ → ℕ
+highestIn r = firstWhere (length r) (λ i. not (some (λ z. ltZ (at r i) z) r))
+
+pub record Summary : Type 0 where
+  pub answer : Answer
+  pub lowest : Float
+  pub highest : Float
+  pub lowestAt : ℕ
+  pub highestAt : ℕ
+
+-- "A refused summary holds plus zero twice and index 0 twice."
+unfoldable pub summary : Shape → ℕ → List ℤ → Summary
+summary s M r =
+    let a = firstOf (outputRows s M (differs (length r) (s .cells)) r) in
+    record {
+      answer = a;
+      lowest = ifDone a (ratio (at r (lowestIn r)) (s .divisor)) plusZero;
+      highest = ifDone a (ratio (at r (highestIn r)) (s .divisor)) plusZero;
+      lowestAt = ifDone a (lowestIn r) 0;
+      highestAt = ifDone a (highestIn r) 0;
+    }
