@@ -2,7 +2,7 @@
 --   Example         a call's inputs, and last what must come out
 --   Holds e         the whole outcome of the call is that: its answer, and what it leaves in every slice
 --   examples-hold   every row of the table holds
-use Prim.Native.Nat.{ℕ, _*_}
+use Prim.Native.Nat.{ℕ}
 use Prim.Native.String.{String}
 use mathlib.Core.Path.{_≡_, refl}
 use mathlib.Core.Bool.{false}

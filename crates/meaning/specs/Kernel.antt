@@ -5,7 +5,7 @@
 --   width ss       no weight lies farther out than this
 --   reach ss       how far a sample is felt
 --   divisor ss     the kernel's sum
-use Prim.Native.Nat.{ℕ, zero, suc, _+_, _*_}
+use Prim.Native.Nat.{ℕ, suc, _+_, _*_}
 use mathlib.Core.Bool.{cond}
 use mathlib.Core.List.{List, [], _∷_}
 use lib.Dec.{leb, eqb}

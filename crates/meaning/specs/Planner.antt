@@ -4,7 +4,7 @@
 --   planFor s K b         the call's outcome
 use Prim.Native.Nat.{ℕ, zero, suc, _+_, _-_, _*_, _/_}
 use mathlib.Core.Bool.{Bool, cond}
-use mathlib.Core.List.{List, [], _∷_}
+use mathlib.Core.List.{[], _∷_}
 use lib.Dec.{leb, ltb}
 use Rattle.meaning.specs.Limits.{maxPasses, maxRadius, maxInner, maxSigma}
 use Rattle.meaning.specs.Refusals.{Answer, _when_, firstOf, outside, ifDone}

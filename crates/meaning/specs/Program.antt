@@ -14,9 +14,9 @@ use Rattle.meaning.specs.Limits.{maxJob}
 use Rattle.meaning.specs.Extension.{fold}
 use Rattle.meaning.specs.Kernel.{plan, divisor}
 use Rattle.meaning.specs.Smoothing.{listOf}
-use Rattle.meaning.specs.Refusals.{Answer, ifDone}
+use Rattle.meaning.specs.Refusals.{ifDone}
 use Rattle.meaning.specs.Calls.{Smoothed, smoothSeries}
-use Rattle.meaning.specs.Record.{Job, readRecord, sampleAt}
+use Rattle.meaning.specs.Record.{readRecord, sampleAt}
 
 unfoldable pub text : String → List ℕ
 text String.[] = []

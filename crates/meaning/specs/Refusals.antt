@@ -5,7 +5,7 @@
 --   commonRows s M b   rows 1 to 8 of a series or picture s under bound M; b says that a lent slice is not the asked length
 --   ifDone a new old   new where a is done, old where it is refused
 use Prim.Native.Nat.{ℕ, zero, suc, _*_}
-use mathlib.Core.Bool.{Bool, true, false, cond, not, _||_}
+use mathlib.Core.Bool.{Bool, false, cond, not, _||_}
 use mathlib.Core.List.{List, [], _∷_, _++_}
 use lib.Dec.{leb, ltb, eqb}
 use lib.ListN.{length, replicate}

@@ -5,7 +5,7 @@
 --   doublesIn     bound; slices doubles, samples
 --   wholeOut, doublesOut, summary   shape, bound; slices results and, but for the summary, cells
 use Prim.Native.Nat.{ℕ, _*_, _/_, _%_}
-use mathlib.Core.Bool.{Bool, true, false, not, _&&_, _||_}
+use mathlib.Core.Bool.{Bool, false, not, _&&_, _||_}
 use mathlib.Core.List.{List, [], _∷_, _++_, map}
 use lib.Dec.{leb, eqb}
 use lib.ListN.{length, getD}
