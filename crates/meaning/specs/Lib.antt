@@ -4,8 +4,8 @@
 --   Kernel      plans, tap row, K-fold kernel, divisor, reach
 --   Smoothing   results of a series and of a picture; the weight of a sample in a result
 --   Refusals    the table of numbers, and the lowest that applies
---   Calls       smoothing a series and a picture, an edit, a point: what each answers and leaves
 --   Values      doubles in; whole numbers, doubles and summary out
+--   Calls       smoothing a series and a picture, an edit, a point: what each answers and leaves
 --   Planner     from standard deviation to radius and edge weight
 --   Record      the job record: reader and writer
 --   Program     what `smooth` prints
@@ -15,8 +15,8 @@ pub mod Extension
 pub mod Kernel
 pub mod Smoothing
 pub mod Refusals
-pub mod Calls
 pub mod Values
+pub mod Calls
 pub mod Planner
 pub mod Record
 pub mod Program
