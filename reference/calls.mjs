@@ -1,0 +1,302 @@
+// The calls of the library: limits, refusals, and the answer with the content of each slice afterwards.
+// Every call takes its arguments by name and gives a new object; it writes to none of the slices it was lent.
+// Whole numbers are BigInt, since any 64-bit number may be asked; a plain number in an answer is a double.
+// Samples and whole cells are Int32Array, results and work BigInt64Array, doubles Float64Array.
+import {
+  divisorOf, kernelOf, pictureResults, planFor, reachOf, resultAt, seriesResults, weightAt,
+} from './smoothing.mjs';
+
+const MOST_PASSES = 8n;
+const MOST_RADIUS = 1023n;
+const MOST_INNER = 255n;
+const MOST_BOUND = 2n ** 31n - 1n;
+const MOST_PRODUCT = 2n ** 53n - 1n;
+const MOST_CELLS = 65_536n;
+const MOST_SIDE = 4_096n;
+const MOST_SIGMA = 25_600n;
+
+const DONE = { number: 0n, position: 0n };
+
+function refuse(number, position = 0) {
+  return { number: BigInt(number), position: BigInt(position) };
+}
+
+function refuseIf(applies, number) {
+  return applies ? refuse(number) : null;
+}
+
+function size(value) {
+  return value < 0n ? -value : value;
+}
+
+function outside(value, least, most) {
+  return value < least || value > most;
+}
+
+// Refusals. Each gives null when its numbers do not apply. A call chains them with ??, in the order of the numbers,
+// so that the lowest number that applies is given.
+
+function passesRefused(plans) {
+  return refuseIf(plans.some((plan) => outside(plan.passes, 1n, MOST_PASSES)), 1);
+}
+
+function innerRefused(plans) {
+  return refuseIf(plans.some((plan) => outside(plan.inner, 1n, MOST_INNER)), 3);
+}
+
+function plansRefused(plans) {
+  return passesRefused(plans)
+    ?? refuseIf(plans.some((plan) => plan.radius > MOST_RADIUS), 2)
+    ?? innerRefused(plans)
+    ?? refuseIf(plans.some((plan) => plan.edge >= plan.inner), 4);
+}
+
+function boundRefused(bound) {
+  return refuseIf(outside(bound, 1n, MOST_BOUND), 5);
+}
+
+export function divisorOfAll(plans) {
+  return plans.reduce((product, plan) => product * divisorOf(plan), 1n);
+}
+
+function limitsRefused(plans, bound) {
+  return plansRefused(plans)
+    ?? boundRefused(bound)
+    ?? refuseIf(bound * divisorOfAll(plans) > MOST_PRODUCT, 6);
+}
+
+function lengthRefused(length) {
+  return refuseIf(outside(BigInt(length), 1n, MOST_CELLS), 7);
+}
+
+function sidesRefused(width, height) {
+  return refuseIf(outside(width, 1n, MOST_SIDE) || outside(height, 1n, MOST_SIDE), 7)
+    ?? refuseIf(width * height > MOST_CELLS, 7);
+}
+
+function slicesRefused(length, ...slices) {
+  return refuseIf(slices.some((slice) => slice.length !== Number(length)), 8);
+}
+
+function firstIndex(from, to, offends) {
+  for (let index = from; index <= to; index++) {
+    if (offends(index)) return index;
+  }
+  return null;
+}
+
+function firstRefused(number, from, to, offends) {
+  const index = firstIndex(from, to, offends);
+  return index === null ? null : refuse(number, index);
+}
+
+function samplesRefused(samples, bound, from = 0, to = samples.length - 1) {
+  return firstRefused(11, from, to, (n) => size(BigInt(samples[n])) > bound);
+}
+
+function resultsRefused(results, most) {
+  return firstRefused(12, 0, results.length - 1, (n) => size(results[n]) > most);
+}
+
+// The indices within reach of `centre`, among `length`.
+function stretch(plan, length, centre) {
+  const reach = reachOf(plan);
+  return [Math.max(0, centre - reach), Math.min(length - 1, centre + reach)];
+}
+
+function zeros(work) {
+  return new BigInt64Array(work.length);
+}
+
+function wholeResults(sums) {
+  return BigInt64Array.from(sums, (sum) => BigInt(sum));
+}
+
+// Smoothing.
+
+export function smoothSeries({ plan, bound, samples, results, work }) {
+  const refused = limitsRefused([plan], bound)
+    ?? lengthRefused(samples.length)
+    ?? slicesRefused(samples.length, results, work)
+    ?? samplesRefused(samples, bound);
+  if (refused) return { ...refused, results, work };
+  return { ...DONE, results: wholeResults(seriesResults(plan, samples)), work: zeros(work) };
+}
+
+export function smoothPicture({ across, down, bound, width, height, samples, results, work }) {
+  const refused = limitsRefused([across, down], bound)
+    ?? sidesRefused(width, height)
+    ?? slicesRefused(width * height, samples, results, work)
+    ?? samplesRefused(samples, bound);
+  if (refused) return { ...refused, results, work };
+  const picture = { samples, width: Number(width), height: Number(height) };
+  return { ...DONE, results: wholeResults(pictureResults(across, down, picture)), work: zeros(work) };
+}
+
+// Edit. Its results are BigInt of any size until number 12 has been ruled out.
+
+function resultsAfterEdit(plan, length, p, change, results) {
+  const kernel = kernelOf(plan);
+  const [from, to] = stretch(plan, length, p);
+  const after = Array.from(results);
+  for (let n = from; n <= to; n++) {
+    after[n] += change * BigInt(weightAt(kernel, length, p, n));
+  }
+  return after;
+}
+
+function editRefused({ plan, bound, position, value, samples, results, work }) {
+  return limitsRefused([plan], bound)
+    ?? lengthRefused(samples.length)
+    ?? slicesRefused(samples.length, results)
+    ?? slicesRefused(2 * samples.length, work)
+    ?? refuseIf(position >= BigInt(samples.length), 9)
+    ?? refuseIf(size(value) > bound, 10)
+    ?? samplesRefused(samples, bound, Number(position), Number(position));
+}
+
+export function edit({ plan, bound, position, value, samples, results, work }) {
+  const refused = editRefused({ plan, bound, position, value, samples, results, work });
+  if (refused) return { ...refused, count: 0n, samples, results, work };
+
+  const p = Number(position);
+  const change = value - BigInt(samples[p]);
+  const after = resultsAfterEdit(plan, samples.length, p, change, results);
+  const most = bound * divisorOf(plan);
+  const tooLarge = firstRefused(12, ...stretch(plan, samples.length, p),
+    (n) => size(results[n]) > most || size(after[n]) > most);
+  if (tooLarge) return { ...tooLarge, count: 0n, samples, results, work };
+
+  const edited = samples.slice();
+  edited[p] = Number(value);
+  const changed = after.filter((result, n) => result !== results[n]);
+  return { ...DONE, count: BigInt(changed.length), samples: edited, results: wholeResults(after), work: zeros(work) };
+}
+
+export function point({ plan, bound, position, samples, work }) {
+  const n = Number(position);
+  const refused = limitsRefused([plan], bound)
+    ?? lengthRefused(samples.length)
+    ?? slicesRefused(2 * samples.length, work)
+    ?? refuseIf(position >= BigInt(samples.length), 9)
+    ?? samplesRefused(samples, bound, ...stretch(plan, samples.length, n));
+  if (refused) return { ...refused, value: 0, work };
+  const result = BigInt(resultAt(kernelOf(plan), samples, n));
+  return { ...DONE, value: asDouble(result, divisorOf(plan)), work: zeros(work) };
+}
+
+// Radius found above 1,023 (number 15) cannot occur: sigma is at most 256, so r(r+1) is at most 196,608 and r at
+// most 442. It is tested all the same.
+export function planner({ sigma, passes, inner }) {
+  const refused = passesRefused([{ passes }])
+    ?? innerRefused([{ inner }])
+    ?? refuseIf(outside(sigma, 1n, MOST_SIGMA), 13);
+  if (refused) return { ...refused, radius: 0n, edge: 0n };
+  const found = planFor(sigma, passes, inner);
+  if (found.radius > MOST_RADIUS) return { ...refuse(15), radius: 0n, edge: 0n };
+  return { ...DONE, ...found };
+}
+
+// Doubles in.
+
+function acceptable(double, bound) {
+  return Number.isInteger(double) && Math.abs(double) <= Number(bound);
+}
+
+export function doublesIn({ bound, doubles, samples }) {
+  const refused = boundRefused(bound)
+    ?? lengthRefused(doubles.length)
+    ?? slicesRefused(doubles.length, samples)
+    ?? firstRefused(11, 0, doubles.length - 1, (n) => !acceptable(doubles[n], bound));
+  if (refused) return { ...refused, samples };
+  return { ...DONE, samples: Int32Array.from(doubles) };
+}
+
+// The three outputs.
+
+function floorOfQuotient(over, under) {
+  const quotient = over / under;
+  return over < quotient * under ? quotient - 1n : quotient;
+}
+
+// The nearest whole number, a half going upward.
+export function asWhole(result, divisor) {
+  return Number(floorOfQuotient(2n * result + divisor, 2n * divisor));
+}
+
+// Both numbers are below 2^53 and so converted exactly; a BigInt zero has no sign.
+export function asDouble(result, divisor) {
+  return Number(result) / Number(divisor);
+}
+
+function asSummary(results, divisor) {
+  let [lowest, highest] = [0, 0];
+  results.forEach((result, n) => {
+    if (result < results[lowest]) lowest = n;
+    if (result > results[highest]) highest = n;
+  });
+  return {
+    lowest: asDouble(results[lowest], divisor),
+    highest: asDouble(results[highest], divisor),
+    indexOfLowest: BigInt(lowest),
+    indexOfHighest: BigInt(highest),
+  };
+}
+
+const EMPTY_SUMMARY = { lowest: 0, highest: 0, indexOfLowest: 0n, indexOfHighest: 0n };
+
+// An output's refusal for a series (cells is absent in a summary) and for a picture.
+function seriesOutputRefused({ plan, bound, results, cells }) {
+  return limitsRefused([plan], bound)
+    ?? lengthRefused(results.length)
+    ?? slicesRefused(results.length, ...(cells ? [cells] : []))
+    ?? resultsRefused(results, bound * divisorOf(plan));
+}
+
+function pictureOutputRefused({ across, down, bound, width, height, results, cells }) {
+  return limitsRefused([across, down], bound)
+    ?? sidesRefused(width, height)
+    ?? slicesRefused(width * height, results, ...(cells ? [cells] : []))
+    ?? resultsRefused(results, bound * divisorOfAll([across, down]));
+}
+
+function cellsOut(refused, { results, cells }, divisor, convert) {
+  if (refused) return { ...refused, cells };
+  const filled = cells.slice();
+  results.forEach((result, n) => { filled[n] = convert(result, divisor); });
+  return { ...DONE, cells: filled };
+}
+
+function summaryOut(refused, results, divisor) {
+  return refused ? { ...refused, ...EMPTY_SUMMARY } : { ...DONE, ...asSummary(results, divisor) };
+}
+
+export function wholeSeries(args) {
+  const refused = seriesOutputRefused(args);
+  return cellsOut(refused, args, refused ? null : divisorOf(args.plan), asWhole);
+}
+
+export function doublesSeries(args) {
+  const refused = seriesOutputRefused(args);
+  return cellsOut(refused, args, refused ? null : divisorOf(args.plan), asDouble);
+}
+
+export function summarySeries(args) {
+  const refused = seriesOutputRefused(args);
+  return summaryOut(refused, args.results, refused ? null : divisorOf(args.plan));
+}
+
+export function wholePicture(args) {
+  const refused = pictureOutputRefused(args);
+  return cellsOut(refused, args, refused ? null : divisorOfAll([args.across, args.down]), asWhole);
+}
+
+export function doublesPicture(args) {
+  const refused = pictureOutputRefused(args);
+  return cellsOut(refused, args, refused ? null : divisorOfAll([args.across, args.down]), asDouble);
+}
+
+export function summaryPicture(args) {
+  const refused = pictureOutputRefused(args);
+  return summaryOut(refused, args.results, refused ? null : divisorOfAll([args.across, args.down]));
+}

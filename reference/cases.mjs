@@ -1,0 +1,33 @@
+// The cases of every call, made the same way each time from a fixed seed: the page's examples, edges, every
+// refusal, every pair of refusals, and chosen inputs. A case is a note and the arguments by name.
+import { casesOfSmoothing } from './cases-smoothing.mjs';
+import { casesOfOutputs } from './cases-outputs.mjs';
+import { casesOfRecords } from './cases-records.mjs';
+import { callWords } from './stream.mjs';
+
+// The numbers each call can give; `check` asserts that the stored cases give them all.
+// The planner's 15 cannot be reached: sigma is at most 256, so the radius found is at most 442.
+// The summary of a series is lent results alone, whose length is N itself, so it cannot give 8.
+export const NUMBERS_GIVEN = {
+  1: [0, 1, 2, 3, 4, 5, 6, 7, 8, 11],
+  2: [0, 1, 2, 3, 4, 5, 6, 7, 8, 11],
+  3: [0, 1, 2, 3, 4, 5, 6, 7, 8, 9, 10, 11, 12],
+  4: [0, 1, 2, 3, 4, 5, 6, 7, 8, 9, 11],
+  5: [0, 1, 3, 13],
+  6: [0, 5, 7, 8, 11],
+  7: [0, 1, 2, 3, 4, 5, 6, 7, 8, 12],
+  8: [0, 1, 2, 3, 4, 5, 6, 7, 8, 12],
+  9: [0, 1, 2, 3, 4, 5, 6, 7, 12],
+  10: [0, 1, 2, 3, 4, 5, 6, 7, 8, 12],
+  11: [0, 1, 2, 3, 4, 5, 6, 7, 8, 12],
+  12: [0, 1, 2, 3, 4, 5, 6, 7, 8, 12],
+  13: [0, 14],
+  14: [0, 7, 8],
+};
+
+const CASES = { ...casesOfSmoothing, ...casesOfOutputs, ...casesOfRecords };
+
+// The cases of a call: a note and the call's words.
+export function casesOf(call) {
+  return CASES[call]().map(({ note, args }) => ({ note, words: callWords(call, args) }));
+}

@@ -1,0 +1,89 @@
+// What cases are made of: extreme numbers, plans that many cases share, and plans, bounds and samples chosen by a
+// generator with a fixed seed, so the same on every machine.
+import { divisorOf } from './smoothing.mjs';
+
+export const LARGEST_U64 = 2n ** 64n - 1n;
+export const LARGEST_I64 = 2n ** 63n - 1n;
+export const LEAST_I64 = -(2n ** 63n);
+export const LEAST_I32 = -(2 ** 31);
+export const MOST_BOUND = 2 ** 31 - 1;
+const MOST_PRODUCT = 2n ** 53n - 1n;
+
+export function plan(radius, inner, edge, passes) {
+  return { radius, inner, edge, passes };
+}
+
+// Named by their divisors; that of SEVENS is 7^8.
+export const ONE = plan(0, 1, 0, 1);
+export const TWO = plan(0, 2, 0, 1);
+export const THREE = plan(1, 1, 0, 1);
+export const FIVE = plan(0, 3, 1, 1);
+export const EIGHT = plan(1, 2, 1, 1);
+export const SEVENS = plan(3, 1, 0, 8);
+
+// Divisor 8^8, the largest bound it allows, and the largest size of a result under both.
+export const LARGE = plan(1, 2, 1, 8);
+export const LARGE_BOUND = 536_870_911;
+export const LARGE_MOST = BigInt(LARGE_BOUND) * divisorOf(LARGE);
+
+// The plan of the widest reach.
+export const WIDEST = plan(1023, 2, 1, 4);
+
+// Two plans of a picture whose divisors times this bound are 2^53 - 1 exactly. No plan of a series meets it.
+export const EXACT = [plan(12, 251, 43, 1), plan(135, 255, 163, 1)];
+export const EXACT_BOUND = 20_394_401;
+
+export function times(count, make) {
+  return Array.from({ length: count }, (_, n) => make(n));
+}
+
+export function filled(length, value) {
+  return new Array(length).fill(value);
+}
+
+// The mulberry32 generator: each call of the function gives the next whole number below `count`.
+export function chance(seed) {
+  let state = seed;
+  return (count) => {
+    state = (state + 0x6d2b79f5) | 0;
+    let t = Math.imul(state ^ (state >>> 15), 1 | state);
+    t = (t + Math.imul(t ^ (t >>> 7), 61 | t)) ^ t;
+    return Math.floor((((t ^ (t >>> 14)) >>> 0) / 2 ** 32) * count);
+  };
+}
+
+export function pick(below, list) {
+  return list[below(list.length)];
+}
+
+// The largest bound that these plans allow together.
+export function largestBound(...plans) {
+  const divisor = plans.reduce((product, each) => product * divisorOf(each), 1n);
+  const most = MOST_PRODUCT / divisor;
+  return most < BigInt(MOST_BOUND) ? most : BigInt(MOST_BOUND);
+}
+
+// A plan of this many passes whose divisor stays below `limit`.
+export function anyPlan(below, passes, limit = MOST_PRODUCT) {
+  for (;;) {
+    const inner = pick(below, [1, 1, 2, 3, 4, 16, 255, 1 + below(255)]);
+    const edge = pick(below, [0, inner - 1, below(inner)]);
+    const radius = pick(below, [0, 0, 1, 1, 2, 3, 5, below(30)]);
+    const chosen = plan(radius, inner, edge, passes);
+    if (divisorOf(chosen) < limit) return chosen;
+  }
+}
+
+export function anyBound(below, ...plans) {
+  const most = Number(largestBound(...plans));
+  return pick(below, [most, most, 1 + below(most), Math.min(most, 1 + below(100))]);
+}
+
+export function anySamples(below, length, bound) {
+  return times(length, () => pick(below, [bound, -bound, 0, below(bound + 1), 0 - below(bound + 1), 1, -1]));
+}
+
+// What a slice happens to hold before a call.
+export function junk(below, length) {
+  return times(length, () => pick(below, [below(19) - 9, below(19) - 9, below(1999) - 999]));
+}

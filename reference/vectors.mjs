@@ -1,0 +1,133 @@
+// The stored cases: `write` stores them, `check` checks what is stored, and
+// `stream NN [NN ..] --stdin FILE --stdout FILE` writes the stream of these calls for the driver and its lines.
+// One file a call in vectors/. A case is a comment `# ..` that names it, `> ` with the call's words and `< ` with
+// the expected line; n equal words in a row may stand as `v*n`.
+import { existsSync, mkdirSync, readFileSync, readdirSync, writeFileSync } from 'node:fs';
+import { NUMBERS_GIVEN, casesOf } from './cases.mjs';
+import { CALLS, bytesOfWords, linesFor } from './stream.mjs';
+
+const FOLDER = new URL('./vectors/', import.meta.url);
+const LEAST_RUN = 6;
+const MOST_SHOWN = 10;
+
+function fileName(call) {
+  return `${String(call).padStart(2, '0')}-${CALLS[call].name}.txt`;
+}
+
+function fileOf(call) {
+  return new URL(fileName(call), FOLDER);
+}
+
+// Words as text, and back.
+
+function wordsText(words) {
+  const parts = [];
+  for (let at = 0, end = 0; at < words.length; at = end) {
+    while (end < words.length && words[end] === words[at]) end++;
+    const run = end - at;
+    if (run >= LEAST_RUN) parts.push(`${words[at]}*${run}`);
+    else parts.push(...words.slice(at, end));
+  }
+  return parts.join(' ');
+}
+
+function textWords(text) {
+  return text.split(' ').flatMap((part) => {
+    const [word, run = '1'] = part.split('*');
+    return new Array(Number(run)).fill(BigInt(word));
+  });
+}
+
+// Cases as text, and back.
+
+function caseText({ note, words, line }) {
+  return `# ${note}\n> ${wordsText(words)}\n< ${line}\n`;
+}
+
+function fileText(cases) {
+  return cases.map(caseText).join('\n');
+}
+
+function storedCases(call) {
+  const paragraphs = readFileSync(fileOf(call), 'utf8').trim().split('\n\n').filter((each) => each !== '');
+  return paragraphs.map((paragraph) => {
+    const lines = paragraph.split('\n');
+    const after = (mark) => lines.filter((line) => line.startsWith(mark)).map((line) => line.slice(mark.length));
+    return { note: after('# ').join(' '), words: textWords(after('> ')[0]), line: after('< ')[0] };
+  });
+}
+
+// The checks. Each gives what differs, or null.
+
+function caseDiffers(call, { note, words, line }) {
+  const lines = linesFor(words);
+  if (Number(words[0]) === call && lines.length === 1 && lines[0] === line) return null;
+  const computed = lines.join(' | ');
+  return `${fileName(call)}: ${note}\n  words    ${wordsText(words)}\n  stored   ${line}\n  computed ${computed}`;
+}
+
+// Notes and words have to be those that the seed makes now. The lines are checked case by case already.
+function fileDiffers(call, stored) {
+  const made = casesOf(call).map((each, n) => ({ ...each, line: stored[n]?.line }));
+  const same = fileText(made) === readFileSync(fileOf(call), 'utf8');
+  return same ? null : `${fileName(call)}: not what the seed makes now`;
+}
+
+function numbersDiffer(call, cases) {
+  const given = new Set(cases.map(({ line }) => Number(line.split(' ')[0])));
+  const wanted = new Set(NUMBERS_GIVEN[call]);
+  const missing = [...wanted].filter((number) => !given.has(number)).map((number) => `no case of number ${number}`);
+  const strange = [...given].filter((number) => !wanted.has(number)).map((number) => `unexpected number ${number}`);
+  const all = [...missing, ...strange];
+  return all.length === 0 ? null : `${fileName(call)}: ${all.join(', ')}`;
+}
+
+function checksOf(call) {
+  if (!existsSync(fileOf(call))) return [`${fileName(call)}: missing`];
+  const cases = storedCases(call);
+  if (cases.length === 0) return [`${fileName(call)}: empty`];
+  console.log(`${fileName(call)}: ${cases.length} cases`);
+  return [...cases.map((each) => caseDiffers(call, each)), numbersDiffer(call, cases), fileDiffers(call, cases)];
+}
+
+function strangeFiles() {
+  if (!existsSync(FOLDER)) return ['vectors: missing'];
+  const known = Object.keys(CALLS).map(fileName);
+  return readdirSync(FOLDER).filter((name) => !known.includes(name)).map((name) => `${name}: of no call`);
+}
+
+// The commands.
+
+function write() {
+  mkdirSync(FOLDER, { recursive: true });
+  for (const call of Object.keys(CALLS)) {
+    const cases = casesOf(call).map((each) => ({ ...each, line: linesFor(each.words).join(' | ') }));
+    writeFileSync(fileOf(call), fileText(cases));
+  }
+}
+
+function check() {
+  const checks = [...Object.keys(CALLS).flatMap((call) => checksOf(Number(call))), ...strangeFiles()];
+  const failures = checks.filter((failure) => failure !== null);
+  failures.slice(0, MOST_SHOWN).forEach((failure) => console.log(failure));
+  console.log(`${checks.length - failures.length} passed, ${failures.length} failed`);
+  if (failures.length > 0) process.exitCode = 1;
+}
+
+function stream(rest) {
+  const fileAfter = (option) => rest[rest.indexOf(option) + 1];
+  const calls = rest.slice(0, rest.findIndex((each) => each.startsWith('--')));
+  const cases = calls.flatMap((call) => storedCases(Number(call)));
+  writeFileSync(fileAfter('--stdin'), Buffer.concat(cases.map(({ words }) => bytesOfWords(words))));
+  writeFileSync(fileAfter('--stdout'), cases.map(({ line }) => `${line}\n`).join(''));
+}
+
+const COMMANDS = { write, check, stream };
+
+const [command, ...rest] = process.argv.slice(2);
+if (command in COMMANDS) {
+  COMMANDS[command](rest);
+} else {
+  console.log('vectors.mjs write | check | stream NN [NN ..] --stdin FILE --stdout FILE');
+  process.exitCode = 1;
+}
