@@ -1,1 +1,4 @@
+pub mod Difference
+pub mod Ring
+pub mod Order
 pub mod Within
