@@ -1,4 +1,9 @@
 pub mod Difference
 pub mod Ring
 pub mod Order
+pub mod Size
+pub mod Expression
+pub mod Polynomial
+pub mod Solver
+pub mod Division
 pub mod Within
