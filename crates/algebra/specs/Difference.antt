@@ -5,7 +5,7 @@
 --   split a b  `ge k e`, e : a ≡ b + k, or `lt k e`, e : b ≡ a + suc k
 --   diff       rules that make one difference of sums, products and negations of differences
 -- An identity by hand: rw (rep a, rep b) (simp diff (omega linear)).
--- Laws: ⊖-is, ⊖-pos, ⊖-negsuc, ⊖-neg, ⊖-+, ⊖-*, ⊖-eq, ⊖-halves, rep, rep-pos, rep-negsuc, sub-pos, sub-neg.
+-- Laws: ⊖-is, ⊖-pos, ⊖-negsuc, ⊖-neg, ⊖-+, ⊖-*, ⊖-eq, ⊖-halves, rep, rep-pos, rep-negsuc, rep-neg, sub-pos, sub-neg.
 use mathlib.Core.Path.{_≡_, refl, sym, _∙_, ap}
 use Prim.Native.Nat.{ℕ, zero, suc, _+_, _*_, _-_, _≤_}
 use native.Mathlib.Nat.{add-comm}
@@ -97,13 +97,16 @@ rep-pos n = sym (⊖-pos n 0 n (omega arith))
 pub rep-negsuc : (n : ℕ) → negsuc n ≡ 0 ⊖ suc n
 rep-negsuc n = sym (⊖-negsuc 0 (suc n) n (omega arith))
 
+pub rep-neg : (n : ℕ) → negℤ (pos n) ≡ 0 ⊖ n
+rep-neg n = ap negℤ (rep-pos n) ∙ ⊖-neg n 0
+
 pub rep : (z : ℤ) → z ≡ plus z ⊖ minus z
 rep (pos n) = rep-pos n
 rep (negsuc n) = rep-negsuc n
 
 pub ruleset linear = (arith, ⊖-eq)
 
-pub ruleset diff = (⊖-+, ⊖-*, ⊖-neg, rep-pos, rep-negsuc)
+pub ruleset diff = (⊖-+, ⊖-*, ⊖-neg, rep-pos, rep-negsuc, rep-neg)
 
 -- ---- the difference of two naturals
 pub sub-pos : (a b : ℕ) → b ≤ a → pos a -ℤ pos b ≡ pos (a - b)

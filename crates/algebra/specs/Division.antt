@@ -34,16 +34,19 @@ divided-shift {z} {m} {q} {r} d k = record { below = d .below; is = rw (d .is) (
 
 -- the larger number has no smaller quotient
 quotient-mono : {a b : ℤ} {m : ℕ} {p q : ℤ} {r s : ℕ} → Divided a m p r → Divided b m q s → a ≤ℤ b → p ≤ℤ q
-quotient-mono {a} {b} {m} {p} {q} {r} {s} d e h = le-in (omega (arith, lt-of-mul-lt-mul-left m {m = plus p + minus q} {n = plus q + minus p + 1} (omega (
-  zarith,
-  d .is,
-  e .is,
-  e .below,
-  of+ (pos m *ℤ p) (pos r),
-  of+ (pos m *ℤ q) (pos s),
-  of* (pos m) p,
-  of* (pos m) q,
-))))
+quotient-mono {a} {b} {m} {p} {q} {r} {s} d e h = le-in (omega (
+  arith,
+  lt-of-mul-lt-mul-left m {m = plus p + minus q} {n = plus q + minus p + 1} (omega (
+    zarith,
+    d .is,
+    e .is,
+    e .below,
+    of+ (pos m *ℤ p) (pos r),
+    of+ (pos m *ℤ q) (pos s),
+    of* (pos m) p,
+    of* (pos m) q,
+  )),
+))
 
 pub divided-unique : {z : ℤ} {m : ℕ} {p q : ℤ} {r s : ℕ} → Divided z m p r → Divided z m q s → (p ≡ q) × (r ≡ s)
 divided-unique {z} {m} {p} {q} {r} {s} d e = (same, omega (zarith, of+ (pos m *ℤ p) (pos r), of+ (pos m *ℤ q) (pos s), d .is, e .is, ap (λ x. pos m *ℤ x) same))

@@ -6,4 +6,5 @@ pub mod Expression
 pub mod Polynomial
 pub mod Solver
 pub mod Division
+pub mod Sum
 pub mod Within
