@@ -2,13 +2,13 @@
 --   Divided z m q r   z is m q + r with r below m; so m is above 0, r never negative
 -- Laws: divided-pos, divided-negsuc, divided-shift, divided-unique;
 -- floor-divided, floor-unique, floor-lower, floor-upper, floor-mono, floor-abs.
-use mathlib.Core.Path.{_≡_, refl, sym, _∙_, ap}
-use Prim.Native.Nat.{ℕ, suc, _+_, _*_, _-_, _/_, _%_, _≤_, _<_}
+use mathlib.Core.Path.{_≡_, refl, ap}
+use Prim.Native.Nat.{ℕ, suc, _+_, _*_, _-_, _/_, _%_, _<_}
 use native.Mathlib.Nat.{div-add-mod', mod-lt, lt-of-mul-lt-mul-left, div-lt-iff-lt-mul, div-le-of-le-mul}
 use native.Mathlib.Omega.{arith}
-use lib.IntN.{ℤ, pos, negsuc, natAbs, _+ℤ_, _-ℤ_, _*ℤ_}
+use lib.IntN.{ℤ, pos, negsuc, _+ℤ_, _*ℤ_}
 use lib.Signed.{_≤ℤ_, _<ℤ_, shrZ, ≤ℤ-refl}
-use Rattle.algebra.specs.Difference.{plus, minus, rep, diff, linear}
+use Rattle.algebra.specs.Difference.{plus, minus, diff, linear}
 use Rattle.algebra.specs.Ring.{*ℤ-+ℤ}
 use Rattle.algebra.specs.Order.{zarith, le-in, of+, of*, ≤ℤ-antisym}
 use Rattle.algebra.specs.Size.{Abs}

@@ -8,14 +8,14 @@
 -- Laws: le-in, le-out, lt-in, lt-out, eq-in, eq-out; ≤ℤ-trans, ≤ℤ-<ℤ-trans, <ℤ-weaken, ≤ℤ-antisym;
 -- +ℤ-mono, negℤ-anti, *ℤ-mono, *ℤ-cancel-r; nonneg-pos, nonneg-+, nonneg-*, nonneg-square, nonneg-sub;
 -- positive-pos, positive-*, positive-+-l, positive-+-r.
-use mathlib.Core.Path.{_≡_, refl, sym, _∙_, ap, ap₂}
+use mathlib.Core.Path.{_≡_, refl, sym, _∙_, ap₂}
 use Prim.Native.Nat.{ℕ, zero, suc, _+_, _*_, _≤_, _<_}
 use native.Mathlib.Nat.{mul-le-mul-left, eq-of-mul-eq-mul-right}
 use native.Mathlib.Omega.{arith}
 use lib.Dec.{leb→le, le→leb, ltb→lt, lt→ltb}
 use lib.IntN.{ℤ, pos, negsuc, negℤ, _+ℤ_, _-ℤ_, _*ℤ_}
 use lib.Signed.{_≤ℤ_, _<ℤ_}
-use Rattle.algebra.specs.Difference.{_⊖_, plus, minus, rep, diff, ⊖-eq, ⊖-halves, ⊖-+, ⊖-*}
+use Rattle.algebra.specs.Difference.{plus, minus, rep, ⊖-eq, ⊖-halves, ⊖-+, ⊖-*}
 
 -- ---- to and from the natural numbers
 pub le-out : {a b : ℤ} → a ≤ℤ b → plus a + minus b ≤ plus b + minus a

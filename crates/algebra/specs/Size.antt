@@ -4,8 +4,8 @@
 --   fits-abs     |z| ≤ n below 2^k: z fits the signed width of k + 1 bits
 -- Laws: natAbs-+, natAbs-back, natAbs-neg, natAbs-*, natAbs-sub, natAbs-nonneg;
 -- abs-self, abs-weaken, abs-+, abs--, abs-neg, abs-*, abs-part; mag-abs, abs-mag, fits-abs.
-use mathlib.Core.Path.{_≡_, refl, _∙_, ap}
-use Prim.Native.Nat.{ℕ, zero, suc, _+_, _*_, _-_, _^_, _≤_, _<_, min}
+use mathlib.Core.Path.{_≡_, refl}
+use Prim.Native.Nat.{ℕ, suc, _+_, _*_, _-_, _^_, _≤_, _<_, min}
 use native.Mathlib.Nat.{mul-le-mul, le-refl, le-trans, lt-of-le-of-lt}
 use native.Mathlib.Omega.{arith}
 use lib.IntN.{ℤ, pos, negsuc, negℤ, natAbs, _+ℤ_, _-ℤ_, _*ℤ_}
