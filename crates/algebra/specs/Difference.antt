@@ -2,10 +2,11 @@
 --   a ⊖ b      a − b, shut: only the laws below see through it
 --   plus z     z where it is above 0, else 0
 --   minus z    −z where it is below 0, else 0
---   split a b  `ge k e`, e : a ≡ b + k, or `lt k e`, e : b ≡ a + suc k
---   diff       rules that make one difference of sums, products and negations of differences
--- An identity by hand: rw (rep a, rep b) (simp diff (omega linear)).
--- Laws: ⊖-is, ⊖-pos, ⊖-negsuc, ⊖-neg, ⊖-+, ⊖-*, ⊖-eq, ⊖-halves, rep, rep-pos, rep-negsuc, rep-neg, sub-pos, sub-neg.
+--   split a b  which is larger: `ge k e` with e : a ≡ b + k, or `lt k e` with e : b ≡ a + suc k; its type is Split a b
+--   diff       rules for simp: sums, products and negations of differences become one difference
+--   linear     rules for omega: what `diff` leaves, an equation of two differences
+-- An identity without cases: rw (rep a, rep b) (simp diff (omega linear)).
+-- Laws: ⊖-is, ⊖-neg, ⊖-pos, ⊖-negsuc, ⊖-eq, ⊖-halves, ⊖-+, ⊖-*; rep, rep-pos, rep-negsuc, rep-neg; sub-pos, sub-neg.
 use mathlib.Core.Path.{_≡_, refl, sym, _∙_, ap}
 use Prim.Native.Nat.{ℕ, zero, suc, _+_, _*_, _-_, _≤_}
 use native.Mathlib.Nat.{add-comm}

@@ -1,5 +1,6 @@
 -- Division that rounds down: lib.Signed's shrZ z m is ⌊z / m⌋.
---   Divided z m q r   z is m q + r with r below m; so m is above 0, r never negative
+--   Divided z m q r   z is m q + r, and r is below m; so 0 < m, and r is never negative
+-- A remainder defined elsewhere is tied by divided-pos and divided-negsuc, and then known by divided-unique.
 -- Laws: divided-pos, divided-negsuc, divided-shift, divided-unique;
 -- floor-divided, floor-unique, floor-lower, floor-upper, floor-mono, floor-abs.
 use mathlib.Core.Path.{_≡_, refl, ap}

@@ -1,8 +1,7 @@
--- Expressions over whole numbers, for the ring solver.
---   var i       the variable with number i
---   con z       the number z
---   e ⊕ f, e ⊝ f, e ⊗ f, neg e
---   value ρ e   what e is where variable i is element i of ρ; 0 past its end
+-- Expressions over whole numbers, as the ring solver reads them.
+--   Expr        var i, the variable numbered i; con z, the number z; e ⊕ f, e ⊝ f, e ⊗ f, neg e
+--   value ρ e   what e is where variable i is element i of ρ; a variable past the end of ρ is 0
+-- Laws: in Solver.
 use mathlib.Core.List.{List}
 use Prim.Native.Nat.{ℕ}
 use lib.ListN.{getD}

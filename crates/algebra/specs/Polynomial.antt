@@ -1,10 +1,15 @@
--- The normal form of an expression: a sum of terms in rising order, none of them with coefficient 0.
---   Mono          a product of variables, their numbers in rising order; [] is 1
---   none          the polynomial 0
---   term c m p    c times m, and p
---   times m n     the product of two monomials
---   add, mul, negate   of polynomials
---   normal e      the polynomial of the expression e; equal expressions have the same one
+-- The normal form of an expression: a sum of terms in rising order, no coefficient 0.
+--   Mono             a product of variables: their numbers in rising order; [] is 1
+--   insert i m       m with one more factor i
+--   times m n        the product of two
+--   Rank, rank m n   whether m stands before n, is the same, or stands after it
+--   Poly             `none` is 0, `term c m p` is c m + p
+--   addTerm c m p    c m + p, in order
+--   mulTerm c m p    c m times p
+--   add, mul, negate
+--   normal e         the normal form of e
+-- Names in If, By and Unless0 are the same step with its test's outcome known.
+-- Laws: in Solver, that a normal form has its expression's value.
 use mathlib.Core.Bool.{Bool, true, false}
 use mathlib.Core.List.{List, [], _∷_}
 use Prim.Native.Nat.{ℕ, zero, suc}

@@ -1,7 +1,7 @@
 -- The ring laws that lib.IntN does not have.
---   ac  rules that make a sum of products, sorted; nothing cancels and no coefficients are joined
--- A goal that needs cancelling goes to Solver.
--- Laws: +ℤ-left-comm, +ℤ-cancel-r, *ℤ-assoc, *ℤ-left-comm, *ℤ-idl, *ℤ-idr, *ℤ-+ℤ, +ℤ-*ℤ, negℤ-*ℤ, *ℤ-negℤ.
+--   ac  rules for simp: a sum of products, each sorted; nothing cancels and no coefficients are joined
+-- A goal that needs cancelling is for Solver.
+-- Laws: +ℤ-left-comm, +ℤ-cancel-r; *ℤ-assoc, *ℤ-left-comm, *ℤ-idl, *ℤ-idr, *ℤ-+ℤ, +ℤ-*ℤ; negℤ-*ℤ, *ℤ-negℤ.
 use mathlib.Core.Path.{_≡_, sym, _∙_, ap}
 use lib.IntN.{ℤ, pos, negℤ, _+ℤ_, _-ℤ_, _*ℤ_, +ℤ-comm, +ℤ-assoc, *ℤ-comm, negℤ-negℤ, negℤ-+ℤ, +ℤ-negℤ-cancel}
 use Rattle.algebra.specs.Difference.{rep, diff, linear}

@@ -1,9 +1,8 @@
 -- Sizes: how far a whole number is from 0.
---   Abs z n      |z| ≤ n; a record, so that z and n are read from a hypothesis
---   of-abs z     for omega's list: one of plus z and minus z is 0, and natAbs z is their sum
---   fits-abs     |z| ≤ n below 2^k: z fits the signed width of k + 1 bits
+--   Abs z n     |z| ≤ n; a record, so that z and n are read from a hypothesis
+--   of-abs z    what natAbs z is, for omega's list beside of+ and the like
 -- Laws: natAbs-+, natAbs-back, natAbs-neg, natAbs-*, natAbs-sub, natAbs-nonneg;
--- abs-self, abs-weaken, abs-+, abs--, abs-neg, abs-*, abs-part; mag-abs, abs-mag, fits-abs.
+-- abs-self, abs-weaken, abs-+, abs-neg, abs--, abs-*, abs-part; mag-abs, abs-mag, fits-abs.
 use mathlib.Core.Path.{_≡_, refl}
 use Prim.Native.Nat.{ℕ, suc, _+_, _*_, _-_, _^_, _≤_, _<_, min}
 use native.Mathlib.Nat.{mul-le-mul, le-refl, le-trans, lt-of-le-of-lt}

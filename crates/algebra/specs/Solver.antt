@@ -1,12 +1,12 @@
 -- The ring solver: an identity of whole numbers, by computing the two normal forms.
---   e ≗ f          the equation between two expressions
+--   e ≗ f          the equation of two expressions, a record Equation
 --   EquationIn n   an equation in n variables, each under its own name
---   from n k q     the equation q of the variables numbered k, k + 1, ..
---   Every n P      P for all n numbers, listed
---   Solved n       from one normal form of both sides, that the equation holds for all numbers
---   ring n         such a solver, for every n;  ring₁ .. ring₈  by name
+--   from n k q     that equation, of the variables numbered k, k + 1, ..
+--   Every n P      P of every list of n numbers, given one after another
+--   Solved n       where both sides of an equation in n variables have one normal form, it holds of every n numbers
+--   ring n         what makes it so;  ring₁ .. ring₈ are ring 1 .. ring 8
 -- In use: ring₃ (λ a b c. a ⊗ (b ⊕ c) ≗ a ⊗ b ⊕ a ⊗ c) refl x y z.
--- Keep an identity a lemma over plain variables, and apply it: `_` for a number is not inferred.
+-- Keep an identity a lemma over plain variables, and apply it: a number left as `_` is not inferred.
 use mathlib.Core.Path.{_≡_, refl, sym, _∙_, ap, ap₂}
 use mathlib.Core.Bool.{Bool, true, false}
 use mathlib.Core.List.{List, [], _∷_}

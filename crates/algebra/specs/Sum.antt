@@ -1,15 +1,16 @@
 -- Finite sums.
 --   sum n f      f 0 + .. + f (n − 1); 0 where n is 0
 --   sumZ s n f   f s + f (s + 1) + .. + f (s + n − 1), from a whole number s on; 0 where n is 0
--- Laws: sum-ext, sum-zero, sum-+, sum-*, sum-neg, sum-swap; sum-first, sum-split, sum-shift, sum-rev, sum-telescope;
--- sum-wide, sum-same, sum-only; sum-abs, sum-nonneg, sum-positive; sumZ-shift, sumZ-split, sumZ-rev.
+-- Laws: sum-ext, sum-zero, sum-const, sum-+, sum-*, sum-neg, sum-swap;
+-- sum-first, sum-split, sum-blocks, sum-shift, sum-rev, sum-telescope; sum-wide, sum-same, sum-only;
+-- sum-abs, sum-nonneg, sum-positive; sumZ-shift, sumZ-split, sumZ-rev.
 use mathlib.Core.Path.{_≡_, refl, sym, _∙_, ap, ap₂}
 use mathlib.Core.Logic.{_≢_}
 use Prim.Native.Nat.{ℕ, zero, suc, _+_, _*_, _-_, _≤_, _<_}
-use native.Mathlib.Nat.{add-zero, add-suc}
+use native.Mathlib.Nat.{add-zero, add-suc, zero-mul, suc-mul}
 use native.Mathlib.Decide.{ℕ-discrete, decLe}
 use native.Mathlib.Omega.{arith}
-use lib.IntN.{ℤ, pos, negℤ, _+ℤ_, _-ℤ_, _*ℤ_, +ℤ-idr, +ℤ-idl, +ℤ-assoc, +ℤ-comm, +ℤ-invr, *ℤ-zero, negℤ-+ℤ}
+use lib.IntN.{ℤ, pos, negℤ, _+ℤ_, _-ℤ_, _*ℤ_, +ℤ-idr, +ℤ-idl, +ℤ-assoc, +ℤ-comm, +ℤ-invr, *ℤ-zero, zero-*ℤ, sucℤ-*ℤ, negℤ-+ℤ}
 use lib.Signed.{_≤ℤ_, _<ℤ_}
 use Rattle.algebra.specs.Difference.{rep, diff, linear}
 use Rattle.algebra.specs.Ring.{ac, *ℤ-+ℤ}
@@ -32,6 +33,11 @@ pub sum-zero : (n : ℕ) → sum n (λ i. pos 0) ≡ pos 0
 unfolding sum
 sum-zero zero = refl
 sum-zero (suc n) = rw (sum-zero n)
+
+pub sum-const : (n : ℕ) (c : ℤ) → sum n (λ i. c) ≡ pos n *ℤ c
+unfolding sum
+sum-const zero c = sym (zero-*ℤ c)
+sum-const (suc n) c = rw (sum-const n c) (sym (sucℤ-*ℤ (pos n) c))
 
 pub sum-+ : (n : ℕ) (f g : ℕ → ℤ) → sum n (λ i. f i +ℤ g i) ≡ sum n f +ℤ sum n g
 unfolding sum
@@ -63,6 +69,12 @@ pub sum-split : (m n : ℕ) (f : ℕ → ℤ) → sum (m + n) f ≡ sum m f +ℤ
 unfolding sum
 sum-split m zero f = rw add-zero (sym (+ℤ-idr (sum m f)))
 sum-split m (suc n) f = rw (add-suc, sum-split m n f) (+ℤ-assoc (sum m f) (sum n (λ i. f (m + i))) (f (m + n)))
+
+-- k stretches of p terms
+pub sum-blocks : (k p : ℕ) (f : ℕ → ℤ) → sum (k * p) f ≡ sum k (λ i. sum p (λ j. f (i * p + j)))
+unfolding sum
+sum-blocks zero p f = rw (zero-mul p)
+sum-blocks (suc k) p f = rw (suc-mul k p, sum-split (k * p) p f, sum-blocks k p f)
 
 -- one step on: what leaves and what enters
 pub sum-shift : (n : ℕ) (f : ℕ → ℤ) → sum n (λ i. f (suc i)) +ℤ f 0 ≡ sum n f +ℤ f n

@@ -11,7 +11,7 @@ use native.Mathlib.Omega.{arith}
 use lib.IntN.{ℤ, pos, negsuc, negℤ, natAbs, predℤ, _+ℤ_, _-ℤ_, _*ℤ_, +ℤ-idl, +ℤ-idr, +ℤ-assoc, +ℤ-comm, +ℤ-predℤ, negℤ-+ℤ}
 use lib.Signed.{_≤ℤ_, _<ℤ_}
 use Rattle.algebra.specs.Difference.{rep, diff, linear}
-use Rattle.algebra.specs.Ring.{ac, *ℤ-+ℤ}
+use Rattle.algebra.specs.Ring.{ac, *ℤ-idl, *ℤ-+ℤ}
 use Rattle.algebra.specs.Order.{nonneg-+, positive-+-l, positive-+-r}
 use Rattle.algebra.specs.Size.{Abs, abs-self, abs-weaken, abs-+, abs-*, natAbs-neg, natAbs-nonneg}
 use Rattle.algebra.specs.Sum.{sum, sum-first, sum-ext, sum-wide, sum-abs, sum-nonneg, sum-positive, sumZ}
@@ -34,10 +34,10 @@ unfolding sumWithin
 within-zero zero = refl
 within-zero (suc R) = rw (within-zero R)
 
-pub within-const : (R c : ℕ) → sumWithin R (λ m. pos c) ≡ pos ((2 * R + 1) * c)
+pub within-const : (R : ℕ) (c : ℤ) → sumWithin R (λ m. c) ≡ pos (2 * R + 1) *ℤ c
 unfolding sumWithin
-within-const zero c = ap pos (omega arith)
-within-const (suc R) c = rw (within-const R c) (ap pos (omega arith))
+within-const zero c = sym (*ℤ-idl c)
+within-const (suc R) c = rw (within-const R c, rep c) (simp diff (omega linear))
 
 pub within-+ : (R : ℕ) (f g : ℤ → ℤ) → sumWithin R (λ m. f m +ℤ g m) ≡ sumWithin R f +ℤ sumWithin R g
 unfolding sumWithin
