@@ -1,10 +1,10 @@
 -- Whole numbers as differences of natural numbers: the bridge from ℤ to `omega`.
---   a ⊖ b      a − b, shut: only the laws below see through it
---   plus z     z where it is above 0, else 0
---   minus z    −z where it is below 0, else 0
---   split a b  which is larger: `ge k e` with e : a ≡ b + k, or `lt k e` with e : b ≡ a + suc k; its type is Split a b
---   diff       rules for simp: sums, products and negations of differences become one difference
---   linear     rules for omega: what `diff` leaves, an equation of two differences
+--   a ⊖ b        a − b, shut: only the laws below see through it
+--   plus z       z where it is above 0, else 0
+--   minus z      −z where it is below 0, else 0
+--   compare a b  `ge k e` with e : a ≡ b + k, or `lt k e` with e : b ≡ a + suc k; its type is Compared a b
+--   diff         rules for simp: sums, products and negations of differences become one difference
+--   linear       rules for omega: what `diff` leaves, an equation of two differences
 -- An identity without cases: rw (rep a, rep b) (simp diff (omega linear)).
 -- Laws: ⊖-is, ⊖-neg, ⊖-pos, ⊖-negsuc, ⊖-eq, ⊖-halves, ⊖-+, ⊖-*; rep, rep-pos, rep-negsuc, rep-neg; sub-pos, sub-neg.
 use mathlib.Core.Path.{_≡_, refl, sym, _∙_, ap}
@@ -25,16 +25,16 @@ abbrev pub minus : ℤ → ℕ
 minus (pos n) = 0
 minus (negsuc n) = suc n
 
-pub data Split (a b : ℕ) : Type 0 where
-  ge : (k : ℕ) → a ≡ b + k → Split a b
-  lt : (k : ℕ) → b ≡ a + suc k → Split a b
+pub data Compared (a b : ℕ) : Type 0 where
+  ge : (k : ℕ) → a ≡ b + k → Compared a b
+  lt : (k : ℕ) → b ≡ a + suc k → Compared a b
 
-pub split : (a b : ℕ) → Split a b
-split a zero = ge a (omega arith)
-split zero (suc b) = lt b (omega arith)
-split (suc a) (suc b) = step (split a b)
+pub compare : (a b : ℕ) → Compared a b
+compare a zero = ge a (omega arith)
+compare zero (suc b) = lt b (omega arith)
+compare (suc a) (suc b) = step (compare a b)
   where
-    step : Split a b → Split (suc a) (suc b)
+    step : Compared a b → Compared (suc a) (suc b)
     step (ge k e) = ge k (omega arith)
     step (lt k e) = lt k (omega arith)
 
@@ -58,16 +58,16 @@ pub ⊖-negsuc : (a b k : ℕ) → b ≡ a + suc k → a ⊖ b ≡ negsuc k
 ⊖-negsuc a b k e = ⊖-negpos a b (suc k) e
 
 pub ⊖-eq : (a b c d : ℕ) → a + d ≡ c + b → a ⊖ b ≡ c ⊖ d
-⊖-eq a b c d h = go (split c d)
+⊖-eq a b c d h = go (compare c d)
   where
-    go : Split c d → a ⊖ b ≡ c ⊖ d
+    go : Compared c d → a ⊖ b ≡ c ⊖ d
     go (ge k e) = ⊖-pos a b k (omega arith) ∙ sym (⊖-pos c d k e)
     go (lt k e) = ⊖-negsuc a b k (omega arith) ∙ sym (⊖-negsuc c d k e)
 
 pub ⊖-halves : (a b : ℕ) → plus (a ⊖ b) + b ≡ a + minus (a ⊖ b)
-⊖-halves a b = go (split a b)
+⊖-halves a b = go (compare a b)
   where
-    go : Split a b → plus (a ⊖ b) + b ≡ a + minus (a ⊖ b)
+    go : Compared a b → plus (a ⊖ b) + b ≡ a + minus (a ⊖ b)
     go (ge k e) = rw (⊖-pos a b k e) (omega arith)
     go (lt k e) = rw (⊖-negsuc a b k e) (omega arith)
 
@@ -83,9 +83,9 @@ unfolding _⊖_
     regroup w x y z = simp (+ℤ-assoc, negℤ-+ℤ, left-comm)
 
 pub ⊖-* : (a b c d : ℕ) → (a ⊖ b) *ℤ (c ⊖ d) ≡ (a * c + b * d) ⊖ (a * d + b * c)
-⊖-* a b c d = go (split a b) (split c d)
+⊖-* a b c d = go (compare a b) (compare c d)
   where
-    go : Split a b → Split c d → (a ⊖ b) *ℤ (c ⊖ d) ≡ (a * c + b * d) ⊖ (a * d + b * c)
+    go : Compared a b → Compared c d → (a ⊖ b) *ℤ (c ⊖ d) ≡ (a * c + b * d) ⊖ (a * d + b * c)
     go (ge k e) (ge l f) = rw (⊖-pos a b k e, ⊖-pos c d l f) (sym (⊖-pos _ _ (k * l) (rw (e, f) (omega arith))))
     go (ge k e) (lt l f) = rw (⊖-pos a b k e, ⊖-negsuc c d l f) (sym (⊖-negpos _ _ (k * suc l) (rw (e, f) (omega arith))))
     go (lt k e) (ge l f) = rw (⊖-negsuc a b k e, ⊖-pos c d l f) (sym (⊖-negpos _ _ (suc k * l) (rw (e, f) (omega arith))))

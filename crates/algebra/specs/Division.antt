@@ -35,22 +35,13 @@ divided-shift {z} {m} {q} {r} d k = record { below = d .below; is = rw (d .is) (
 
 -- the larger number has no smaller quotient
 quotient-mono : {a b : ℤ} {m : ℕ} {p q : ℤ} {r s : ℕ} → Divided a m p r → Divided b m q s → a ≤ℤ b → p ≤ℤ q
-quotient-mono {a} {b} {m} {p} {q} {r} {s} d e h = le-in (omega (
-  arith,
-  lt-of-mul-lt-mul-left m {m = plus p + minus q} {n = plus q + minus p + 1} (omega (
-    zarith,
-    d .is,
-    e .is,
-    e .below,
-    of+ (pos m *ℤ p) (pos r),
-    of+ (pos m *ℤ q) (pos s),
-    of* (pos m) p,
-    of* (pos m) q,
-  )),
-))
+quotient-mono {m} {p} {q} {r} {s} d e h =
+    let l : m * (plus p + minus q) < m * (plus q + minus p + 1) = omega (zarith, of+ (pos m *ℤ p) (pos r), of+ (pos m *ℤ q) (pos s), of* (pos m) p, of* (pos m) q) in
+    le-in (omega (arith, lt-of-mul-lt-mul-left m l))
 
 pub divided-unique : {z : ℤ} {m : ℕ} {p q : ℤ} {r s : ℕ} → Divided z m p r → Divided z m q s → (p ≡ q) × (r ≡ s)
-divided-unique {z} {m} {p} {q} {r} {s} d e = (same, omega (zarith, of+ (pos m *ℤ p) (pos r), of+ (pos m *ℤ q) (pos s), d .is, e .is, ap (λ x. pos m *ℤ x) same))
+divided-unique {z} {m} {p} {q} {r} {s} d e =
+    (same, omega (zarith, of+ (pos m *ℤ p) (pos r), of+ (pos m *ℤ q) (pos s), ap (λ x. pos m *ℤ x) same))
   where
     same : p ≡ q
     same = ≤ℤ-antisym (quotient-mono d e (≤ℤ-refl z)) (quotient-mono e d (≤ℤ-refl z))
@@ -61,18 +52,18 @@ floor-divided (pos a) m h = (a % m, divided-pos a m h)
 floor-divided (negsuc a) m h = (m - suc (a % m), divided-negsuc a m h)
 
 pub floor-unique : {z : ℤ} {m : ℕ} {q : ℤ} {r : ℕ} → Divided z m q r → shrZ z m ≡ q
-floor-unique {z} {m} d = divided-unique (floor-divided z m (omega (arith, d .below)) .1) d .0
+floor-unique {z} {m} d = divided-unique (floor-divided z m (omega arith) .1) d .0
 
 module _ (m : ℕ) (h : 0 < m) where
   pub floor-lower : (z : ℤ) → (pos m *ℤ shrZ z m) ≤ℤ z
-  floor-lower z = let d = floor-divided z m h in omega (zarith, d .1 .is, of+ (pos m *ℤ shrZ z m) (pos (d .0)))
+  floor-lower z = let d = floor-divided z m h in omega (zarith, of+ (pos m *ℤ shrZ z m) (pos (d .0)))
 
   pub floor-upper : (z : ℤ) → z <ℤ (pos m *ℤ (shrZ z m +ℤ pos 1))
-  floor-upper z = let d = floor-divided z m h in rw (*ℤ-+ℤ (pos m) (shrZ z m) (pos 1)) (omega (zarith, d .1 .is, d .1 .below, of+ (pos m *ℤ shrZ z m) (pos (d .0)), of+ (pos m *ℤ shrZ z m) (pos (m * 1))))
+  floor-upper z = let d = floor-divided z m h in rw (*ℤ-+ℤ (pos m) (shrZ z m) (pos 1)) (omega (zarith, of+ (pos m *ℤ shrZ z m) (pos (d .0)), of+ (pos m *ℤ shrZ z m) (pos (m * 1))))
 
   pub floor-mono : {a b : ℤ} → a ≤ℤ b → shrZ a m ≤ℤ shrZ b m
   floor-mono {a} {b} k = quotient-mono (floor-divided a m h .1) (floor-divided b m h .1) k
 
   pub floor-abs : {z : ℤ} {M : ℕ} → Abs z (M * m) → Abs (shrZ z m) M
-  floor-abs {z = pos a} {M} k = record { abs = div-le-of-le-mul m (omega (arith, k .abs)) }
-  floor-abs {z = negsuc a} {M} k = record { abs = div-lt-iff-lt-mul h .1 (k .abs) }
+  floor-abs {z = pos a} {M} k = record { bound = div-le-of-le-mul m (omega arith) }
+  floor-abs {z = negsuc a} {M} k = record { bound = div-lt-iff-lt-mul h .1 (k .bound) }

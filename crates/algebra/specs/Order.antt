@@ -19,28 +19,28 @@ use Rattle.algebra.specs.Difference.{plus, minus, rep, ⊖-eq, ⊖-halve
 
 -- ---- to and from the natural numbers
 pub le-out : {a b : ℤ} → a ≤ℤ b → plus a + minus b ≤ plus b + minus a
-le-out {a = pos a} {b = pos b} h = omega (arith, leb→le a b (h .le))
+le-out {a = pos a} {b = pos b} h = omega (arith, leb→le)
 le-out {a = pos a} {b = negsuc b} h = absurd (h .le)
 le-out {a = negsuc a} {b = pos b} h = omega arith
-le-out {a = negsuc a} {b = negsuc b} h = omega (arith, leb→le b a (h .le))
+le-out {a = negsuc a} {b = negsuc b} h = omega (arith, leb→le)
 
 pub le-in : {a b : ℤ} → plus a + minus b ≤ plus b + minus a → a ≤ℤ b
-le-in {a = pos a} {b = pos b} h = record { le = le→leb a b (omega arith) }
+le-in {a = pos a} {b = pos b} h = omega (arith, le→leb)
 le-in {a = pos a} {b = negsuc b} h = absurd (omega arith)
 le-in {a = negsuc a} {b = pos b} h = record { le = tt }
-le-in {a = negsuc a} {b = negsuc b} h = record { le = le→leb b a (omega arith) }
+le-in {a = negsuc a} {b = negsuc b} h = omega (arith, le→leb)
 
 pub lt-out : {a b : ℤ} → a <ℤ b → plus a + minus b < plus b + minus a
-lt-out {a = pos a} {b = pos b} h = omega (arith, ltb→lt a b (h .lt))
+lt-out {a = pos a} {b = pos b} h = omega (arith, ltb→lt)
 lt-out {a = pos a} {b = negsuc b} h = absurd (h .lt)
 lt-out {a = negsuc a} {b = pos b} h = omega arith
-lt-out {a = negsuc a} {b = negsuc b} h = omega (arith, ltb→lt b a (h .lt))
+lt-out {a = negsuc a} {b = negsuc b} h = omega (arith, ltb→lt)
 
 pub lt-in : {a b : ℤ} → plus a + minus b < plus b + minus a → a <ℤ b
-lt-in {a = pos a} {b = pos b} h = record { lt = lt→ltb a b (omega arith) }
+lt-in {a = pos a} {b = pos b} h = omega (arith, lt→ltb)
 lt-in {a = pos a} {b = negsuc b} h = absurd (omega arith)
 lt-in {a = negsuc a} {b = pos b} h = record { lt = tt }
-lt-in {a = negsuc a} {b = negsuc b} h = record { lt = lt→ltb b a (omega arith) }
+lt-in {a = negsuc a} {b = negsuc b} h = omega (arith, lt→ltb)
 
 pub eq-out : {a b : ℤ} → a ≡ b → plus a + minus b ≡ plus b + minus a
 eq-out e = rw e

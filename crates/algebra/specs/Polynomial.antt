@@ -2,7 +2,7 @@
 --   Mono             a product of variables: their numbers in rising order; [] is 1
 --   insert i m       m with one more factor i
 --   times m n        the product of two
---   Rank, rank m n   whether m stands before n, is the same, or stands after it
+--   Place, rank m n   whether m stands before n, is the same, or stands after it
 --   Poly             `none` is 0, `term c m p` is c m + p
 --   addTerm c m p    c m + p, in order
 --   mulTerm c m p    c m times p
@@ -33,16 +33,16 @@ abbrev pub times : Mono → Mono → Mono
 times [] n = n
 times (i ∷ m) n = insert i (times m n)
 
-pub data Rank : Type 0 where
-  before same after : Rank
+pub data Place : Type 0 where
+  before same after : Place
 
 -- whether the first numbers are below, whether they are equal, and what the others say
-abbrev pub rankBy : Bool → Bool → Rank → Rank
+abbrev pub rankBy : Bool → Bool → Place → Place
 rankBy true e r = before
 rankBy false true r = r
 rankBy false false r = after
 
-abbrev pub rank : Mono → Mono → Rank
+abbrev pub rank : Mono → Mono → Place
 rank [] [] = same
 rank [] (j ∷ n) = before
 rank (i ∷ m) [] = after
@@ -58,7 +58,7 @@ termUnless0 (pos zero) m p = p
 termUnless0 (pos (suc n)) m p = term (pos (suc n)) m p
 termUnless0 (negsuc n) m p = term (negsuc n) m p
 
-abbrev pub addTermBy : Rank → ℤ → Mono → ℤ → Mono → Poly → Poly → Poly
+abbrev pub addTermBy : Place → ℤ → Mono → ℤ → Mono → Poly → Poly → Poly
 addTermBy before c m d n p rest = term c m (term d n p)
 addTermBy same c m d n p rest = termUnless0 (c +ℤ d) n p
 addTermBy after c m d n p rest = term d n rest

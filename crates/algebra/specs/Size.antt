@@ -15,7 +15,7 @@ use Rattle.algebra.specs.Difference.{plus, minus}
 use Rattle.algebra.specs.Order.{zarith, of+, of-, of-neg}
 
 pub record Abs (z : ℤ) (n : ℕ) : Type 0 where
-  pub abs : natAbs z ≤ n
+  pub bound : natAbs z ≤ n
 
 pub of-abs : (z : ℤ) → (min (plus z) (minus z) ≡ 0) × (natAbs z ≡ plus z + minus z)
 of-abs (pos n) = omega arith
@@ -46,37 +46,37 @@ natAbs-nonneg {a} {b} h k = omega (zarith, of-abs a, of-abs b, of-abs (a +ℤ b)
 
 -- ---- bounds
 pub abs-self : (z : ℤ) → Abs z (natAbs z)
-abs-self z = record { abs = le-refl (natAbs z) }
+abs-self z = record { bound = le-refl (natAbs z) }
 
 pub abs-weaken : {z : ℤ} {m n : ℕ} → Abs z m → m ≤ n → Abs z n
-abs-weaken h k = record { abs = le-trans (h .abs) k }
+abs-weaken h k = record { bound = le-trans (h .bound) k }
 
 pub abs-+ : {a b : ℤ} {m n : ℕ} → Abs a m → Abs b n → Abs (a +ℤ b) (m + n)
-abs-+ {a} {b} h k = record { abs = omega (arith, natAbs-+ a b, h .abs, k .abs) }
+abs-+ {a} {b} h k = omega (arith, natAbs-+ a b)
 
 pub abs-neg : {a : ℤ} {m : ℕ} → Abs a m → Abs (negℤ a) m
-abs-neg {a} h = record { abs = rw (natAbs-neg a) (h .abs) }
+abs-neg {a} h = record { bound = rw (natAbs-neg a) (h .bound) }
 
 pub abs-- : {a b : ℤ} {m n : ℕ} → Abs a m → Abs b n → Abs (a -ℤ b) (m + n)
 abs-- h k = abs-+ h (abs-neg k)
 
 pub abs-* : {a b : ℤ} {m n : ℕ} → Abs a m → Abs b n → Abs (a *ℤ b) (m * n)
-abs-* {a} {b} h k = record { abs = rw (natAbs-* a b) (mul-le-mul (h .abs) (k .abs)) }
+abs-* {a} {b} h k = record { bound = rw (natAbs-* a b) (mul-le-mul (h .bound) (k .bound)) }
 
 -- a part of a sum of numbers that are not negative
 pub abs-part : {a b : ℤ} {n : ℕ} → pos 0 ≤ℤ a → pos 0 ≤ℤ b → Abs (a +ℤ b) n → Abs a n
-abs-part {a} {b} h k s = record { abs = omega (arith, natAbs-nonneg h k, s .abs) }
+abs-part {a} {b} h k s = omega (arith, natAbs-nonneg h k)
 
 -- ---- the range of a signed width
 pub mag-abs : {z : ℤ} {n H : ℕ} → Abs z n → n < H → mag z < H
-mag-abs {z} h k = lt-of-le-of-lt (le-trans (mag-le z) (h .abs)) k
+mag-abs {z} h k = lt-of-le-of-lt (le-trans (mag-le z) (h .bound)) k
   where
     mag-le : (z : ℤ) → mag z ≤ natAbs z
     mag-le (pos n) = omega arith
     mag-le (negsuc n) = omega arith
 
 pub abs-mag : (z : ℤ) {H : ℕ} → mag z < H → Abs z H
-abs-mag z h = record { abs = natAbs-le z h }
+abs-mag z h = record { bound = natAbs-le z h }
 
 pub fits-abs : {w : Width} {z : ℤ} {n : ℕ} → Abs z n → n < 2 ^ hbits w → SFits w z
 fits-abs h k = record { sfits = mag-abs h k }

@@ -2,7 +2,7 @@
 --   e ≗ f          the equation of two expressions, a record Equation
 --   EquationIn n   an equation in n variables, each under its own name
 --   from n k q     that equation, of the variables numbered k, k + 1, ..
---   Every n P      P of every list of n numbers, given one after another
+--   Every n P      P of every n numbers, given one after another
 --   Solved n       where both sides of an equation in n variables have one normal form, it holds of every n numbers
 --   ring n         what makes it so;  ring₁ .. ring₈ are ring 1 .. ring 8
 -- In use: ring₃ (λ a b c. a ⊗ (b ⊕ c) ≗ a ⊗ b ⊕ a ⊗ c) refl x y z.
@@ -17,7 +17,7 @@ use lib.ListN.{getD}
 use lib.IntN.{ℤ, pos, negsuc, negℤ, _+ℤ_, _*ℤ_, +ℤ-idr, +ℤ-idl, +ℤ-assoc, *ℤ-zero, zero-*ℤ, negℤ-+ℤ}
 use Rattle.algebra.specs.Ring.{+ℤ-left-comm, *ℤ-assoc, *ℤ-left-comm, *ℤ-idl, *ℤ-idr, *ℤ-+ℤ, +ℤ-*ℤ, negℤ-*ℤ}
 use Rattle.algebra.specs.Expression.{Expr, var, con, _⊕_, _⊝_, _⊗_, neg, value}
-use Rattle.algebra.specs.Polynomial.{Mono, insertIf, insert, times, Rank, before, same, after, rankBy, rank, Poly, none, term, termUnless0, addTermBy, addTerm, add, mulTerm, mul, negate, normal}
+use Rattle.algebra.specs.Polynomial.{Mono, insertIf, insert, times, Place, before, same, after, rankBy, rank, Poly, none, term, termUnless0, addTermBy, addTerm, add, mulTerm, mul, negate, normal}
 
 rank-same : (m n : Mono) → rank m n ≡ same → m ≡ n
 rank-same [] [] e = refl
@@ -65,7 +65,7 @@ module _ (ρ : List ℤ) where
   addTerm-is c m none = refl
   addTerm-is c m (term d n p) = go (rank m n) (rank-same m n) (addTerm-is c m p)
     where
-      go : (r : Rank) → (r ≡ same → m ≡ n) → valueP (addTerm c m p) ≡ c *ℤ valueM m +ℤ valueP p → valueP (addTermBy r c m d n p (addTerm c m p)) ≡ c *ℤ valueM m +ℤ (d *ℤ valueM n +ℤ valueP p)
+      go : (r : Place) → (r ≡ same → m ≡ n) → valueP (addTerm c m p) ≡ c *ℤ valueM m +ℤ valueP p → valueP (addTermBy r c m d n p (addTerm c m p)) ≡ c *ℤ valueM m +ℤ (d *ℤ valueM n +ℤ valueP p)
       go before f h = refl
       go same f h = rw (f refl, unless0-is (c +ℤ d) n p, +ℤ-*ℤ c d (valueM n)) (+ℤ-assoc (c *ℤ valueM n) (d *ℤ valueM n) (valueP p))
       go after f h = rw h (+ℤ-left-comm (d *ℤ valueM n) (c *ℤ valueM m) (valueP p))
@@ -126,15 +126,15 @@ abbrev pub Every : (n : ℕ) → (List ℤ → Type 0) → Type 0
 Every zero P = P []
 Every (suc n) P = (x : ℤ) → Every n (λ ρ. P (x ∷ ρ))
 
-every : (n : ℕ) (P : List ℤ → Type 0) → ((ρ : List ℤ) → P ρ) → Every n P
-every zero P f = f []
-every (suc n) P f = λ x. every n (λ ρ. P (x ∷ ρ)) (λ ρ. f (x ∷ ρ))
+for-all : (n : ℕ) (P : List ℤ → Type 0) → ((ρ : List ℤ) → P ρ) → Every n P
+for-all zero P f = f []
+for-all (suc n) P f = λ x. for-all n (λ ρ. P (x ∷ ρ)) (λ ρ. f (x ∷ ρ))
 
 abbrev pub Solved : ℕ → Type 0
 Solved n = (q : EquationIn n) → normal (from n 0 q .lhs) ≡ normal (from n 0 q .rhs) → Every n (λ ρ. value ρ (from n 0 q .lhs) ≡ value ρ (from n 0 q .rhs))
 
 pub ring : (n : ℕ) → Solved n
-ring n q h = every n _ (λ ρ. sound ρ (from n 0 q .lhs) (from n 0 q .rhs) h)
+ring n q h = for-all n _ (λ ρ. sound ρ (from n 0 q .lhs) (from n 0 q .rhs) h)
 
 pub ring₁ : Solved 1
 ring₁ = ring 1

@@ -126,8 +126,8 @@ sum-only (suc n) p f l h = go (ℕ-discrete p n) (sum-only n p f)
 -- ---- bounds
 pub sum-abs : (n b : ℕ) {f : ℕ → ℤ} → ((i : ℕ) → i < n → Abs (f i) b) → Abs (sum n f) (n * b)
 unfolding sum
-sum-abs zero b h = record { abs = omega arith }
-sum-abs (suc n) b h = let q = abs-+ (sum-abs n b (λ i l. h i (omega arith))) (h n (omega arith)) in record { abs = omega (arith, q .abs) }
+sum-abs zero b h = omega arith
+sum-abs (suc n) b h = let q = abs-+ (sum-abs n b (λ i l. h i (omega arith))) (h n (omega arith)) in omega arith
 
 pub sum-nonneg : (n : ℕ) {f : ℕ → ℤ} → ((i : ℕ) → i < n → pos 0 ≤ℤ f i) → pos 0 ≤ℤ sum n f
 unfolding sum

@@ -59,7 +59,7 @@ unfolding sum
 within-sum R zero f = within-zero R
 within-sum R (suc n) f = within-+ R (λ m. sum n (λ i. f m i)) (λ m. f m n) ∙ ap (λ z. z +ℤ sumWithin R (λ m. f m n)) (within-sum R n f)
 
--- from the other side
+-- counted from the other end
 pub within-neg : (R : ℕ) (f : ℤ → ℤ) → sumWithin R (λ m. f (negℤ m)) ≡ sumWithin R f
 unfolding sumWithin
 within-neg zero f = refl
@@ -109,10 +109,10 @@ within-wide w R f l h =
 pub within-step : (R : ℕ) (f : ℤ → ℤ) → sumWithin R (λ m. f (predℤ m)) +ℤ f (pos R) ≡ sumWithin R f +ℤ f (negsuc R)
 unfolding sumWithin
 within-step zero f = +ℤ-comm (f (negsuc 0)) (f (pos 0))
-within-step (suc R) f = alg (sumWithin R (λ m. f (predℤ m))) (f (pos R)) (sumWithin R f) (f (negsuc R)) (f (pos (suc R))) (f (negsuc (suc R))) (within-step R f)
+within-step (suc R) f = step (sumWithin R (λ m. f (predℤ m))) (f (pos R)) (sumWithin R f) (f (negsuc R)) (f (pos (suc R))) (f (negsuc (suc R))) (within-step R f)
   where
-    alg : (x a s b c d : ℤ) → x +ℤ a ≡ s +ℤ b → x +ℤ (a +ℤ d) +ℤ c ≡ s +ℤ (c +ℤ b) +ℤ d
-    alg x a s b c d h = ap (λ z. z +ℤ c) (sym (+ℤ-assoc x a d)) ∙ ap (λ z. z +ℤ d +ℤ c) h ∙ simp ac
+    step : (x a s b c d : ℤ) → x +ℤ a ≡ s +ℤ b → x +ℤ (a +ℤ d) +ℤ c ≡ s +ℤ (c +ℤ b) +ℤ d
+    step x a s b c d h = ap (λ z. z +ℤ c) (sym (+ℤ-assoc x a d)) ∙ ap (λ z. z +ℤ d +ℤ c) h ∙ simp ac
 
 module _ (f : ℤ → ℤ) where
   same-pred : (w R : ℕ) → w < R → Beyond w f → sumWithin R (λ m. f (predℤ m)) ≡ sumWithin R f
@@ -165,4 +165,4 @@ within-weighted (suc R) b c f h k =
     let hi = abs-+ (abs-* (abs-self (c (pos (suc R)))) (k (pos (suc R)) (le-refl _))) (abs-* (abs-self (c (negsuc R))) (k (negsuc R) (le-refl _))) in
     let up = h (pos (suc R)) (le-refl _) in
     let down = h (negsuc R) (le-refl _) in
-    record { abs = rw (natAbs-nonneg (within-nonneg R (λ m l. h m (omega arith))) (nonneg-+ up down), natAbs-nonneg up down) (omega (arith, abs-+ lo hi .abs)) }
+    record { bound = rw (natAbs-nonneg (within-nonneg R (λ m l. h m (omega arith))) (nonneg-+ up down), natAbs-nonneg up down) (omega (arith, abs-+ lo hi .bound)) }
