@@ -2,7 +2,7 @@
 --   Mono             a product of variables: their numbers in rising order; [] is 1
 --   insert i m       m with one more factor i
 --   times m n        the product of two
---   Place, rank m n   whether m stands before n, is the same, or stands after it
+--   Place, rank m n  whether m stands before n, is the same, or stands after it
 --   Poly             `none` is 0, `term c m p` is c m + p
 --   addTerm c m p    c m + p, in order
 --   mulTerm c m p    c m times p
