@@ -1,1 +1,10 @@
+pub mod Difference
+pub mod Ring
+pub mod Order
+pub mod Size
+pub mod Expression
+pub mod Polynomial
+pub mod Solver
+pub mod Division
+pub mod Sum
 pub mod Within

@@ -1,0 +1,39 @@
+-- The ring laws that lib.IntN does not have.
+--   ac  rules for simp: a sum of products, each sorted; nothing cancels and no coefficients are joined
+-- A goal that needs cancelling is for Solver.
+-- Laws: +ℤ-left-comm, +ℤ-cancel-r; *ℤ-assoc, *ℤ-left-comm, *ℤ-idl, *ℤ-idr, *ℤ-+ℤ, +ℤ-*ℤ; negℤ-*ℤ, *ℤ-negℤ.
+use mathlib.Core.Path.{_≡_, sym, _∙_, ap}
+use lib.IntN.{ℤ, pos, negℤ, _+ℤ_, _-ℤ_, _*ℤ_, +ℤ-comm, +ℤ-assoc, *ℤ-comm, negℤ-negℤ, negℤ-+ℤ, +ℤ-negℤ-cancel}
+use Rattle.algebra.specs.Difference.{rep, diff, linear}
+
+pub +ℤ-left-comm : (a b c : ℤ) → a +ℤ (b +ℤ c) ≡ b +ℤ (a +ℤ c)
++ℤ-left-comm a b c = rw (rep a, rep b, rep c) (simp diff (omega linear))
+
+pub +ℤ-cancel-r : (c : ℤ) {a b : ℤ} → a +ℤ c ≡ b +ℤ c → a ≡ b
++ℤ-cancel-r c {a} {b} e = sym (+ℤ-negℤ-cancel a c) ∙ ap (λ z. z -ℤ c) e ∙ +ℤ-negℤ-cancel b c
+
+pub *ℤ-assoc : (a b c : ℤ) → (a *ℤ b) *ℤ c ≡ a *ℤ (b *ℤ c)
+*ℤ-assoc a b c = rw (rep a, rep b, rep c) (simp diff (omega linear))
+
+pub *ℤ-left-comm : (a b c : ℤ) → a *ℤ (b *ℤ c) ≡ b *ℤ (a *ℤ c)
+*ℤ-left-comm a b c = rw (rep a, rep b, rep c) (simp diff (omega linear))
+
+pub *ℤ-idl : (a : ℤ) → pos 1 *ℤ a ≡ a
+*ℤ-idl a = rw (rep a) (simp diff (omega linear))
+
+pub *ℤ-idr : (a : ℤ) → a *ℤ pos 1 ≡ a
+*ℤ-idr a = rw (rep a) (simp diff (omega linear))
+
+pub *ℤ-+ℤ : (a b c : ℤ) → a *ℤ (b +ℤ c) ≡ a *ℤ b +ℤ a *ℤ c
+*ℤ-+ℤ a b c = rw (rep a, rep b, rep c) (simp diff (omega linear))
+
+pub +ℤ-*ℤ : (a b c : ℤ) → (a +ℤ b) *ℤ c ≡ a *ℤ c +ℤ b *ℤ c
++ℤ-*ℤ a b c = rw (rep a, rep b, rep c) (simp diff (omega linear))
+
+pub negℤ-*ℤ : (a b : ℤ) → negℤ a *ℤ b ≡ negℤ (a *ℤ b)
+negℤ-*ℤ a b = rw (rep a, rep b) (simp diff (omega linear))
+
+pub *ℤ-negℤ : (a b : ℤ) → a *ℤ negℤ b ≡ negℤ (a *ℤ b)
+*ℤ-negℤ a b = rw (rep a, rep b) (simp diff (omega linear))
+
+pub ruleset ac = (*ℤ-+ℤ, +ℤ-*ℤ, *ℤ-assoc, +ℤ-assoc, *ℤ-comm, +ℤ-comm, negℤ-+ℤ, negℤ-negℤ, +ℤ-left-comm, *ℤ-left-comm, negℤ-*ℤ, *ℤ-negℤ)

@@ -1,0 +1,160 @@
+-- Finite sums.
+--   sum n f      f 0 + .. + f (n − 1); 0 where n is 0
+--   sumZ s n f   f s + f (s + 1) + .. + f (s + n − 1), from a whole number s on; 0 where n is 0
+-- Laws: sum-ext, sum-zero, sum-const, sum-+, sum-*, sum-neg, sum-swap;
+-- sum-first, sum-split, sum-blocks, sum-shift, sum-rev, sum-telescope; sum-wide, sum-same, sum-only;
+-- sum-abs, sum-nonneg, sum-positive; sumZ-shift, sumZ-split, sumZ-rev.
+use mathlib.Core.Path.{_≡_, refl, sym, _∙_, ap, ap₂}
+use mathlib.Core.Logic.{_≢_}
+use Prim.Native.Nat.{ℕ, zero, suc, _+_, _*_, _-_, _≤_, _<_}
+use native.Mathlib.Nat.{add-zero, add-suc, zero-mul, suc-mul}
+use native.Mathlib.Decide.{ℕ-discrete, decLe}
+use native.Mathlib.Omega.{arith}
+use lib.IntN.{ℤ, pos, negℤ, _+ℤ_, _-ℤ_, _*ℤ_, +ℤ-idr, +ℤ-idl, +ℤ-assoc, +ℤ-comm, +ℤ-invr, *ℤ-zero, zero-*ℤ, sucℤ-*ℤ, negℤ-+ℤ}
+use lib.Signed.{_≤ℤ_, _<ℤ_}
+use Rattle.algebra.specs.Difference.{rep, diff, linear}
+use Rattle.algebra.specs.Ring.{ac, *ℤ-+ℤ}
+use Rattle.algebra.specs.Order.{nonneg-pos, nonneg-+, positive-+-l, positive-+-r}
+use Rattle.algebra.specs.Size.{Abs, abs-+}
+use Rattle.algebra.specs.Expression.{_⊕_, _⊝_}
+use Rattle.algebra.specs.Solver.{ring₃, _≗_}
+
+unfoldable pub sum : ℕ → (ℕ → ℤ) → ℤ
+sum zero f = pos 0
+sum (suc n) f = sum n f +ℤ f n
+
+-- ---- linear
+pub sum-ext : (n : ℕ) {f g : ℕ → ℤ} → ((i : ℕ) → i < n → f i ≡ g i) → sum n f ≡ sum n g
+unfolding sum
+sum-ext zero h = refl
+sum-ext (suc n) h = ap₂ _+ℤ_ (sum-ext n (λ i l. h i (omega arith))) (h n (omega arith))
+
+pub sum-zero : (n : ℕ) → sum n (λ i. pos 0) ≡ pos 0
+unfolding sum
+sum-zero zero = refl
+sum-zero (suc n) = rw (sum-zero n)
+
+pub sum-const : (n : ℕ) (c : ℤ) → sum n (λ i. c) ≡ pos n *ℤ c
+unfolding sum
+sum-const zero c = sym (zero-*ℤ c)
+sum-const (suc n) c = rw (sum-const n c) (sym (sucℤ-*ℤ (pos n) c))
+
+pub sum-+ : (n : ℕ) (f g : ℕ → ℤ) → sum n (λ i. f i +ℤ g i) ≡ sum n f +ℤ sum n g
+unfolding sum
+sum-+ zero f g = refl
+sum-+ (suc n) f g = rw (sum-+ n f g) (simp ac)
+
+pub sum-* : (n : ℕ) (c : ℤ) (f : ℕ → ℤ) → sum n (λ i. c *ℤ f i) ≡ c *ℤ sum n f
+unfolding sum
+sum-* zero c f = sym (*ℤ-zero c)
+sum-* (suc n) c f = rw (sum-* n c f) (sym (*ℤ-+ℤ c (sum n f) (f n)))
+
+pub sum-neg : (n : ℕ) (f : ℕ → ℤ) → sum n (λ i. negℤ (f i)) ≡ negℤ (sum n f)
+unfolding sum
+sum-neg zero f = refl
+sum-neg (suc n) f = rw (sum-neg n f) (sym (negℤ-+ℤ (sum n f) (f n)))
+
+pub sum-swap : (m n : ℕ) (f : ℕ → ℕ → ℤ) → sum m (λ i. sum n (λ j. f i j)) ≡ sum n (λ j. sum m (λ i. f i j))
+unfolding sum
+sum-swap zero n f = sym (sum-zero n)
+sum-swap (suc m) n f = rw (sum-swap m n f) (sym (sum-+ n (λ j. sum m (λ i. f i j)) (λ j. f m j)))
+
+-- ---- the range taken apart
+pub sum-first : (n : ℕ) (f : ℕ → ℤ) → sum (suc n) f ≡ f 0 +ℤ sum n (λ i. f (suc i))
+unfolding sum
+sum-first zero f = +ℤ-comm (pos 0) (f 0)
+sum-first (suc n) f = ap (λ z. z +ℤ f (suc n)) (sum-first n f) ∙ +ℤ-assoc (f 0) (sum n (λ i. f (suc i))) (f (suc n))
+
+pub sum-split : (m n : ℕ) (f : ℕ → ℤ) → sum (m + n) f ≡ sum m f +ℤ sum n (λ i. f (m + i))
+unfolding sum
+sum-split m zero f = rw add-zero (sym (+ℤ-idr (sum m f)))
+sum-split m (suc n) f = rw (add-suc, sum-split m n f) (+ℤ-assoc (sum m f) (sum n (λ i. f (m + i))) (f (m + n)))
+
+-- k stretches of p terms
+pub sum-blocks : (k p : ℕ) (f : ℕ → ℤ) → sum (k * p) f ≡ sum k (λ i. sum p (λ j. f (i * p + j)))
+unfolding sum
+sum-blocks zero p f = rw (zero-mul p)
+sum-blocks (suc k) p f = rw (suc-mul k p, sum-split (k * p) p f, sum-blocks k p f)
+
+-- one step on: what leaves and what enters
+pub sum-shift : (n : ℕ) (f : ℕ → ℤ) → sum n (λ i. f (suc i)) +ℤ f 0 ≡ sum n f +ℤ f n
+unfolding sum
+sum-shift n f = +ℤ-comm (sum n (λ i. f (suc i))) (f 0) ∙ sym (sum-first n f)
+
+pub sum-rev : (n : ℕ) (f : ℕ → ℤ) → sum n (λ i. f (n - suc i)) ≡ sum n f
+unfolding sum
+sum-rev zero f = refl
+sum-rev (suc n) f =
+    sum-first n (λ i. f (suc n - suc i))
+    ∙ ap₂ _+ℤ_ (ap f last) (sum-ext n (λ i l. ap f (next i)) ∙ sum-rev n f)
+    ∙ +ℤ-comm (f n) (sum n f)
+  where
+    last : suc n - 1 ≡ n
+    last = omega arith
+
+    next : (i : ℕ) → suc n - suc (suc i) ≡ n - suc i
+    next i = omega arith
+
+pub sum-telescope : (n : ℕ) (f : ℕ → ℤ) → sum n (λ i. f (suc i) -ℤ f i) ≡ f n -ℤ f 0
+unfolding sum
+sum-telescope zero f = sym (+ℤ-invr (f 0))
+sum-telescope (suc n) f = rw (sum-telescope n f) (ring₃ (λ a b c. a ⊝ c ⊕ (b ⊝ a) ≗ b ⊝ c) refl (f n) (f (suc n)) (f 0))
+
+-- ---- where most terms are 0
+pub sum-wide : (m n : ℕ) (f : ℕ → ℤ) → m ≤ n → ((i : ℕ) → m ≤ i → f i ≡ pos 0) → sum n f ≡ sum m f
+sum-wide m n f l h = ap (λ k. sum k f) to ∙ sum-split m (n - m) f ∙ ap (λ z. sum m f +ℤ z) (sum-ext (n - m) (λ i t. h (m + i) (omega arith)) ∙ sum-zero (n - m)) ∙ +ℤ-idr (sum m f)
+  where
+    to : n ≡ m + (n - m)
+    to = omega arith
+
+pub sum-same : (m n : ℕ) (f : ℕ → ℤ) → ((i : ℕ) → m ≤ i → f i ≡ pos 0) → ((i : ℕ) → n ≤ i → f i ≡ pos 0) → sum m f ≡ sum n f
+sum-same m n f h k = go (decLe m n)
+  where
+    go : Dec (m ≤ n) → sum m f ≡ sum n f
+    go (yes l) = sym (sum-wide m n f l h)
+    go (no l) = sum-wide n m f (omega arith) k
+
+pub sum-only : (n p : ℕ) (f : ℕ → ℤ) → p < n → ((i : ℕ) → i < n → i ≢ p → f i ≡ pos 0) → sum n f ≡ f p
+unfolding sum
+sum-only zero p f l h = absurd (omega arith)
+sum-only (suc n) p f l h = go (ℕ-discrete p n) (sum-only n p f)
+  where
+    go : Dec (p ≡ n) → (p < n → ((i : ℕ) → i < n → i ≢ p → f i ≡ pos 0) → sum n f ≡ f p) → sum n f +ℤ f n ≡ f p
+    go (yes e) ih = ap₂ _+ℤ_ (sum-ext n (λ i t. h i (omega arith) (omega arith)) ∙ sum-zero n) (ap f (sym e)) ∙ +ℤ-idl (f p)
+    go (no e) ih = ap₂ _+ℤ_ (ih (omega arith) (λ i t. h i (omega arith))) (h n (omega arith) (omega arith)) ∙ +ℤ-idr (f p)
+
+-- ---- bounds
+pub sum-abs : (n b : ℕ) {f : ℕ → ℤ} → ((i : ℕ) → i < n → Abs (f i) b) → Abs (sum n f) (n * b)
+unfolding sum
+sum-abs zero b h = omega arith
+sum-abs (suc n) b h = let q = abs-+ (sum-abs n b (λ i l. h i (omega arith))) (h n (omega arith)) in omega arith
+
+pub sum-nonneg : (n : ℕ) {f : ℕ → ℤ} → ((i : ℕ) → i < n → pos 0 ≤ℤ f i) → pos 0 ≤ℤ sum n f
+unfolding sum
+sum-nonneg zero h = nonneg-pos
+sum-nonneg (suc n) h = nonneg-+ (sum-nonneg n (λ i l. h i (omega arith))) (h n (omega arith))
+
+pub sum-positive : (n : ℕ) {f : ℕ → ℤ} → ((i : ℕ) → i < n → pos 0 ≤ℤ f i) → (p : ℕ) → p < n → pos 0 <ℤ f p → pos 0 <ℤ sum n f
+unfolding sum
+sum-positive zero h p l t = absurd (omega arith)
+sum-positive (suc n) {f} h p l t = go (ℕ-discrete p n) (sum-positive n (λ i k. h i (omega arith)) p)
+  where
+    go : Dec (p ≡ n) → (p < n → pos 0 <ℤ f p → pos 0 <ℤ sum n f) → pos 0 <ℤ (sum n f +ℤ f n)
+    go (yes e) ih = positive-+-r (sum-nonneg n (λ i k. h i (omega arith))) (rw e at t)
+    go (no e) ih = positive-+-l (ih (omega arith) t) (h n (omega arith))
+
+-- ---- over whole numbers
+abbrev pub sumZ : ℤ → ℕ → (ℤ → ℤ) → ℤ
+sumZ s n f = sum n (λ i. f (s +ℤ pos i))
+
+pub sumZ-shift : (s t : ℤ) (n : ℕ) (f : ℤ → ℤ) → sumZ (s +ℤ t) n f ≡ sumZ s n (λ x. f (x +ℤ t))
+sumZ-shift s t n f = simp ac
+
+pub sumZ-split : (s : ℤ) (m n : ℕ) (f : ℤ → ℤ) → sumZ s (m + n) f ≡ sumZ s m f +ℤ sumZ (s +ℤ pos m) n f
+sumZ-split s m n f = sum-split m n (λ i. f (s +ℤ pos i)) ∙ ap (λ z. sumZ s m f +ℤ z) (sum-ext n (λ i l. ap f (sym (+ℤ-assoc s (pos m) (pos i)))))
+
+pub sumZ-rev : (s : ℤ) (n : ℕ) (f : ℤ → ℤ) → sumZ s n (λ x. f (s +ℤ s +ℤ pos n -ℤ pos 1 -ℤ x)) ≡ sumZ s n f
+sumZ-rev s n f = sum-ext n (λ i l. ap f (mirrored i l)) ∙ sum-rev n (λ i. f (s +ℤ pos i))
+  where
+    mirrored : (i : ℕ) → i < n → s +ℤ s +ℤ pos n -ℤ pos 1 -ℤ (s +ℤ pos i) ≡ s +ℤ pos (n - suc i)
+    mirrored i l = rw (rep s) (simp diff (omega linear))
