@@ -179,6 +179,12 @@ function lineOf({ call, args }) {
   return call.prints.flatMap((name) => printed(outcome[name])).join(' ');
 }
 
+// The arguments of the one call of these words, by name, and its outcome.
+export function decoded(words) {
+  const { call, args } = new Words(words).call();
+  return { args, outcome: call.run(args) };
+}
+
 // The lines for these words. A call that the words break off gets no line.
 export function linesFor(words) {
   const stream = new Words(words);

@@ -1,61 +1,11 @@
 // The stored cases: `write` stores them, `check` checks what is stored, and
 // `stream NN [NN ..] --stdin FILE --stdout FILE` writes the stream of these calls for the driver and its lines.
-// One file a call in vectors/. A case is a comment `# ..` that names it, `> ` with the call's words and `< ` with
-// the expected line; n equal words in a row may stand as `v*n`.
 import { existsSync, mkdirSync, readFileSync, readdirSync, writeFileSync } from 'node:fs';
 import { NUMBERS_GIVEN, casesOf } from './cases.mjs';
+import { FOLDER, fileName, fileOf, fileText, storedCases, wordsText } from './stored.mjs';
 import { CALLS, bytesOfWords, linesFor } from './stream.mjs';
 
-const FOLDER = new URL('./vectors/', import.meta.url);
-const LEAST_RUN = 6;
 const MOST_SHOWN = 10;
-
-function fileName(call) {
-  return `${String(call).padStart(2, '0')}-${CALLS[call].name}.txt`;
-}
-
-function fileOf(call) {
-  return new URL(fileName(call), FOLDER);
-}
-
-// Words as text, and back.
-
-function wordsText(words) {
-  const parts = [];
-  for (let at = 0, end = 0; at < words.length; at = end) {
-    while (end < words.length && words[end] === words[at]) end++;
-    const run = end - at;
-    if (run >= LEAST_RUN) parts.push(`${words[at]}*${run}`);
-    else parts.push(...words.slice(at, end));
-  }
-  return parts.join(' ');
-}
-
-function textWords(text) {
-  return text.split(' ').flatMap((part) => {
-    const [word, run = '1'] = part.split('*');
-    return new Array(Number(run)).fill(BigInt(word));
-  });
-}
-
-// Cases as text, and back.
-
-function caseText({ note, words, line }) {
-  return `# ${note}\n> ${wordsText(words)}\n< ${line}\n`;
-}
-
-function fileText(cases) {
-  return cases.map(caseText).join('\n');
-}
-
-function storedCases(call) {
-  const paragraphs = readFileSync(fileOf(call), 'utf8').trim().split('\n\n').filter((each) => each !== '');
-  return paragraphs.map((paragraph) => {
-    const lines = paragraph.split('\n');
-    const after = (mark) => lines.filter((line) => line.startsWith(mark)).map((line) => line.slice(mark.length));
-    return { note: after('# ').join(' '), words: textWords(after('> ')[0]), line: after('< ')[0] };
-  });
-}
 
 // The checks. Each gives what differs, or null.
 
@@ -115,19 +65,20 @@ function check() {
 }
 
 function stream(rest) {
-  const fileAfter = (option) => rest[rest.indexOf(option) + 1];
-  const calls = rest.slice(0, rest.findIndex((each) => each.startsWith('--')));
-  const cases = calls.flatMap((call) => storedCases(Number(call)));
-  writeFileSync(fileAfter('--stdin'), Buffer.concat(cases.map(({ words }) => bytesOfWords(words))));
-  writeFileSync(fileAfter('--stdout'), cases.map(({ line }) => `${line}\n`).join(''));
+  const [stdoutFile, stdoutOption, stdinFile, stdinOption, ...calls] = rest.reverse();
+  const known = calls.length > 0 && calls.every((call) => Number(call) in CALLS);
+  if (!known || stdinOption !== '--stdin' || stdoutOption !== '--stdout') return usage();
+  const cases = calls.reverse().flatMap((call) => storedCases(Number(call)));
+  writeFileSync(stdinFile, Buffer.concat(cases.map(({ words }) => bytesOfWords(words))));
+  writeFileSync(stdoutFile, cases.map(({ line }) => `${line}\n`).join(''));
+}
+
+function usage() {
+  console.log('vectors.mjs write | check | stream NN [NN ..] --stdin FILE --stdout FILE');
+  process.exitCode = 2;
 }
 
 const COMMANDS = { write, check, stream };
 
 const [command, ...rest] = process.argv.slice(2);
-if (command in COMMANDS) {
-  COMMANDS[command](rest);
-} else {
-  console.log('vectors.mjs write | check | stream NN [NN ..] --stdin FILE --stdout FILE');
-  process.exitCode = 1;
-}
+(COMMANDS[command] ?? usage)(rest);

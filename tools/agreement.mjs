@@ -6,8 +6,8 @@ import { cpSync, mkdirSync, mkdtempSync, rmSync, writeFileSync } from 'node:fs';
 import { tmpdir } from 'node:os';
 import { dirname, join } from 'node:path';
 import { fileURLToPath } from 'node:url';
-import { bitsOf } from '../reference/stream.mjs';
-import { storedCases } from '../reference/vectors.mjs';
+import { storedCases } from '../reference/stored.mjs';
+import { CALLS, bitsOf, decoded } from '../reference/stream.mjs';
 
 const root = join(dirname(fileURLToPath(import.meta.url)), '..');
 
@@ -15,6 +15,7 @@ const root = join(dirname(fileURLToPath(import.meta.url)), '..');
 const MOST_PRODUCTS = 4_000;
 const MOST_PASSES = 12n;
 const MOST_SIGMA = 3_000n;
+const MOST_CELLS = 64;
 
 // Values in the definitions' notation.
 
@@ -124,13 +125,13 @@ use Rattle.meaning.specs.Record.{bytes, number, field, sampleBytes, recordOf, b
 
 const OPENED = `unfolding ofInt div toSigned round size units odd span climb trailingZeros sumWithin emod reflect fold ext tap kernel width reach tapSum divisor listOf result results weight near pixel grid picture firstOf firstWhere rowAt some planRows sizeRows ifDone nearest ratio takes doubleRows doublesIn outputRows converted lowestIn highestIn summary smoothRows smoothed gained editRows countWhere changed editSeries pointRows point largest radiusFor edgeFor planFor bytes number field sampleBytes recordOf begins reading readRecord writeRecord`;
 
-function tooManyPasses(args) {
-  return [args.plan, args.across, args.down].some((p) => p && p.passes > MOST_PASSES);
+function tooLarge(args) {
+  return Object.values(args).some((each) => each.passes > MOST_PASSES || each.length > MOST_CELLS);
 }
 
 // The module of a call's equations, and how many they are.
 function moduleOf(number, cases) {
-  const equations = cases.flatMap(({ args, outcome }) => (tooManyPasses(args) ? [] : EQUATIONS[number](args, outcome) || []));
+  const equations = cases.flatMap(({ args, outcome }) => (tooLarge(args) ? [] : EQUATIONS[number](args, outcome) || []));
   const theorems = equations.map((equation, i) => `case-${i} : ${equation}\n${OPENED}\ncase-${i} = refl\n`);
   return { text: [HEAD, ...theorems].join('\n'), count: equations.length };
 }
@@ -148,7 +149,8 @@ function main() {
     writeFileSync(join(folder, 'crates', 'agreement', 'src', 'lib.rt'), '// Equations only: see specs/.\n');
     let total = 0;
     const modules = [];
-    for (const [number, cases] of storedCases()) {
+    for (const number of Object.keys(CALLS)) {
+      const cases = storedCases(number).map(({ words }) => decoded(words));
       const { text, count } = moduleOf(number, cases);
       console.log(`call ${number}: ${count} of ${cases.length} vectors`);
       if (count === 0) throw new Error(`no vector of call ${number} is small enough`);

@@ -13,7 +13,7 @@ use Rattle.algebra.specs.Difference.{plus, minus, diff, linear}
 use Rattle.algebra.specs.Ring.{*ℤ-+ℤ}
 use Rattle.algebra.specs.Order.{zarith, le-in, of+, of*, ≤ℤ-antisym}
 use Rattle.algebra.specs.Size.{Abs}
-use Rattle.algebra.specs.Solver.{ring₄, _≗_}
+use Rattle.algebra.specs.Solver.{ring, _≗_}
 use Rattle.algebra.specs.Expression.{_⊕_, _⊗_}
 
 pub record Divided (z : ℤ) (m : ℕ) (q : ℤ) (r : ℕ) : Type 0 where
@@ -31,7 +31,7 @@ pub divided-shift : {z : ℤ} {m : ℕ} {q : ℤ} {r : ℕ} → Divided z m q r 
 divided-shift {z} {m} {q} {r} d k = record { below = d .below; is = rw (d .is) (regroup (pos m) q (pos r) k) }
   where
     regroup : (m q r k : ℤ) → m *ℤ q +ℤ r +ℤ m *ℤ k ≡ m *ℤ (q +ℤ k) +ℤ r
-    regroup = ring₄ (λ m q r k. m ⊗ q ⊕ r ⊕ m ⊗ k ≗ m ⊗ (q ⊕ k) ⊕ r) refl
+    regroup = ring 4 (λ m q r k. m ⊗ q ⊕ r ⊕ m ⊗ k ≗ m ⊗ (q ⊕ k) ⊕ r) refl
 
 -- the larger number has no smaller quotient
 quotient-mono : {a b : ℤ} {m : ℕ} {p q : ℤ} {r s : ℕ} → Divided a m p r → Divided b m q s → a ≤ℤ b → p ≤ℤ q

@@ -4,8 +4,8 @@
 --   from n k q     that equation, of the variables numbered k, k + 1, ..
 --   Every n P      P of every n numbers, given one after another
 --   Solved n       where both sides of an equation in n variables have one normal form, it holds of every n numbers
---   ring n         what makes it so;  ring₁ .. ring₈ are ring 1 .. ring 8
--- In use: ring₃ (λ a b c. a ⊗ (b ⊕ c) ≗ a ⊗ b ⊕ a ⊗ c) refl x y z.
+--   ring n         what makes it so, for any number of variables
+-- In use: ring 3 (λ a b c. a ⊗ (b ⊕ c) ≗ a ⊗ b ⊕ a ⊗ c) refl x y z.
 -- Keep an identity a lemma over plain variables, and apply it: a number left as `_` is not inferred.
 use mathlib.Core.Path.{_≡_, refl, sym, _∙_, ap, ap₂}
 use mathlib.Core.Bool.{Bool, true, false}
@@ -135,27 +135,3 @@ Solved n = (q : EquationIn n) → normal (from n 0 q .lhs) ≡ normal (from n 0 
 
 pub ring : (n : ℕ) → Solved n
 ring n q h = for-all n _ (λ ρ. sound ρ (from n 0 q .lhs) (from n 0 q .rhs) h)
-
-pub ring₁ : Solved 1
-ring₁ = ring 1
-
-pub ring₂ : Solved 2
-ring₂ = ring 2
-
-pub ring₃ : Solved 3
-ring₃ = ring 3
-
-pub ring₄ : Solved 4
-ring₄ = ring 4
-
-pub ring₅ : Solved 5
-ring₅ = ring 5
-
-pub ring₆ : Solved 6
-ring₆ = ring 6
-
-pub ring₇ : Solved 7
-ring₇ = ring 7
-
-pub ring₈ : Solved 8
-ring₈ = ring 8

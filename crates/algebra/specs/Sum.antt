@@ -17,7 +17,7 @@ use Rattle.algebra.specs.Ring.{ac, *ℤ-+ℤ}
 use Rattle.algebra.specs.Order.{nonneg-pos, nonneg-+, positive-+-l, positive-+-r}
 use Rattle.algebra.specs.Size.{Abs, abs-+}
 use Rattle.algebra.specs.Expression.{_⊕_, _⊝_}
-use Rattle.algebra.specs.Solver.{ring₃, _≗_}
+use Rattle.algebra.specs.Solver.{ring, _≗_}
 
 unfoldable pub sum : ℕ → (ℕ → ℤ) → ℤ
 sum zero f = pos 0
@@ -98,7 +98,7 @@ sum-rev (suc n) f =
 pub sum-telescope : (n : ℕ) (f : ℕ → ℤ) → sum n (λ i. f (suc i) -ℤ f i) ≡ f n -ℤ f 0
 unfolding sum
 sum-telescope zero f = sym (+ℤ-invr (f 0))
-sum-telescope (suc n) f = rw (sum-telescope n f) (ring₃ (λ a b c. a ⊝ c ⊕ (b ⊝ a) ≗ b ⊝ c) refl (f n) (f (suc n)) (f 0))
+sum-telescope (suc n) f = rw (sum-telescope n f) (ring 3 (λ a b c. a ⊝ c ⊕ (b ⊝ a) ≗ b ⊝ c) refl (f n) (f (suc n)) (f 0))
 
 -- ---- where most terms are 0
 pub sum-wide : (m n : ℕ) (f : ℕ → ℤ) → m ≤ n → ((i : ℕ) → m ≤ i → f i ≡ pos 0) → sum n f ≡ sum m f
