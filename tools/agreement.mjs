@@ -1,172 +1,230 @@
-// Holds the definitions of `meaning` to the independent program: every stored vector that is small enough to compute
-// becomes an equation between what a definition says of the call and what the program says, and the prover decides it.
-// Nothing of it is kept: the equations stand in a crate of a temporary repository.
+// Holds the definitions of `meaning` to the independent program. Each stored vector that is small enough becomes an
+// equation between what a definition says of the call and what the program says, and the prover computes it.
+// The equations stand in a crate of a temporary repository; nothing of them is kept.
 import { spawnSync } from 'node:child_process';
 import { cpSync, mkdirSync, mkdtempSync, rmSync, writeFileSync } from 'node:fs';
 import { tmpdir } from 'node:os';
 import { dirname, join } from 'node:path';
 import { fileURLToPath } from 'node:url';
+import { report } from '../reference/record.mjs';
 import { storedCases } from '../reference/stored.mjs';
 import { CALLS, bitsOf, decoded } from '../reference/stream.mjs';
 
-const root = join(dirname(fileURLToPath(import.meta.url)), '..');
-
-// What the prover computes in good time: factors of a kernel's sums, passes, planner's candidates.
-const MOST_PRODUCTS = 4_000;
-const MOST_PASSES = 12n;
-const MOST_SIGMA = 3_000n;
+// What the prover computes in good time.
 const MOST_CELLS = 64;
+const MOST_PASSES = 1_000n;
+const MOST_SIGMA = 26_000n;
+const MOST_PRODUCTS = 60_000n;
 
-// Values in the definitions' notation.
+// Values in the notation of the definitions.
 
-const natural = (n) => `${n}`;
 const whole = (n) => (BigInt(n) < 0n ? `negsuc ${-1n - BigInt(n)}` : `pos ${n}`);
 const list = (items, write) => (items.length ? `(${Array.from(items, write).join(' ∷ ')} ∷ [])` : '[]');
 const wholes = (slice) => list(slice, whole);
-const naturals = (slice) => list(slice, natural);
+const naturals = (slice) => list(slice, String);
 const floats = (slice) => list(slice, float);
-const plan = ({ radius, inner, edge, passes }) => `(plan ${radius} ${inner} ${edge} ${passes})`;
-const answer = ({ number, position = 0n }) => `record { number = ${number}; position = ${position} }`;
+const planOf = ({ radius, inner, edge, passes }) => `(plan ${radius} ${inner} ${edge} ${passes})`;
 const record = (fields) => `record { ${Object.entries(fields).map(([name, value]) => `${name} = ${value}`).join('; ')} }`;
+const answerOf = ({ number, position = 0n }) => record({ number, position });
 
 // A finite double is an odd number, or 0, times a power of 2.
 function float(double) {
   const bits = bitsOf(double);
-  const sign = bits >> 63n === 1n;
+  const negative = bits >> 63n === 1n;
   const exponent = (bits >> 52n) & 0x7ffn;
   let significand = bits & 0xfffffffffffffn;
-  if (exponent === 0x7ffn) return significand ? 'nan' : `inf ${sign}`;
+  if (exponent === 0x7ffn) return significand ? 'nan' : `inf ${negative}`;
   if (exponent) significand += 2n ** 52n;
-  if (!significand) return `fin ${sign} 0 (pos 0)`;
+  if (!significand) return `fin ${negative} 0 (pos 0)`;
   let power = (exponent || 1n) - 1075n;
-  while (significand % 2n === 0n) [significand, power] = [significand / 2n, power + 1n];
-  return `fin ${sign} ${significand} (${whole(power)})`;
+  for (; significand % 2n === 0n; power += 1n) significand /= 2n;
+  return `fin ${negative} ${significand} (${whole(power)})`;
 }
 
-// How many products the definition of a result takes: the kernel's sums are nested, a level a pass.
-function products(plans, cells) {
-  const widths = plans.map(({ radius, passes }) => [2n * radius + 3n, passes]);
-  return widths.reduce((all, [taps, passes]) => all * (passes * taps) * taps ** passes, BigInt(cells));
+// The definition of a result nests its sums, a level a pass: whether that many products are few.
+function quick(cells, ...plans) {
+  const products = plans.reduce((all, { radius, passes }) => {
+    const taps = 2n * radius + 3n;
+    return all * passes * taps * taps ** passes;
+  }, BigInt(cells));
+  return products <= MOST_PRODUCTS;
 }
 
-const common = {
-  seriesShape: ({ plan: p }, slice) => `(seriesOf ${plan(p)} ${slice.length})`,
-  pictureShape: ({ across, down, width, height }) => `(pictureOf ${plan(across)} ${plan(down)} ${width} ${height})`,
-};
+// The equations, of a call's arguments and its outcome by the independent program; null where it would take too long.
+// A call that is refused need not be computed whole: its rows decide.
 
-function smoothing(shape, definition, plansOf) {
-  return (args, out) => {
-    const { bound, samples, results, work } = args;
-    if (products(plansOf(args), samples.length) <= MOST_PRODUCTS) {
-      const slices = [samples, results, work].map(wholes).join(' ');
-      return `${definition(args)} ${slices} ≡ ${record({ answer: answer(out), results: wholes(out.results), work: wholes(out.work) })}`;
-    }
-    return out.number > 0n && `firstOf (smoothRows ${shape(args, samples)} ${bound} ${wholes(samples)} ${results.length} ${work.length}) ≡ ${answer(out)}`;
-  };
+const series = ({ plan }, slice) => `(seriesOf ${planOf(plan)} ${slice.length})`;
+const picture = ({ across, down, width, height }) => `(pictureOf ${planOf(across)} ${planOf(down)} ${width} ${height})`;
+
+function smoothed(shape, call, { bound, samples, results, work }, out, isQuick) {
+  const [f, r, w] = [samples, results, work].map(wholes);
+  if (isQuick) return `${call} ${f} ${r} ${w} ≡ ${record({ answer: answerOf(out), results: wholes(out.results), work: wholes(out.work) })}`;
+  if (out.number === 0n) return null;
+  return `firstOf (smoothRows ${shape} ${bound} ${f} ${results.length} ${work.length}) ≡ ${answerOf(out)}`;
 }
 
-function output(shape, definition, write, read) {
-  return (args, out) => `${definition} ${shape(args, args.results)} ${args.bound} ${wholes(args.results)} ${write(args.cells)} ≡ ${record({ answer: answer(out), cells: write(out.cells) })}`;
+function smoothSeries(args, out) {
+  const call = `smoothSeries fold ${planOf(args.plan)} ${args.bound}`;
+  return smoothed(series(args, args.samples), call, args, out, quick(args.samples.length, args.plan));
 }
 
-function summaryOf(shape) {
-  return (args, out) => `summary ${shape(args, args.results)} ${args.bound} ${wholes(args.results)} ≡ ${record({
-    answer: answer(out), lowest: float(out.lowest), highest: float(out.highest), lowestAt: out.indexOfLowest, highestAt: out.indexOfHighest,
+function smoothPicture(args, out) {
+  const { across, down, bound, width, height } = args;
+  const call = `smoothPicture fold fold ${planOf(across)} ${planOf(down)} ${bound} ${width} ${height}`;
+  return smoothed(picture(args), call, args, out, quick(args.samples.length, across, down));
+}
+
+function edit({ plan, bound, position, value, samples, results, work }, out) {
+  const inputs = `${planOf(plan)} ${bound} ${position} (${whole(value)}) ${wholes(samples)} ${wholes(results)}`;
+  if (quick(samples.length, plan)) {
+    return `editSeries fold ${inputs} ${wholes(work)} ≡ ${record({
+      answer: answerOf(out), count: out.count, samples: wholes(out.samples), results: wholes(out.results), work: wholes(out.work),
+    })}`;
+  }
+  if (out.number === 0n || out.number === 12n) return null;
+  return `firstOf (editRows ${inputs} ${wholes(results)} ${work.length}) ≡ ${answerOf(out)}`;
+}
+
+function point({ plan, bound, position, samples, work }, out) {
+  const inputs = `${planOf(plan)} ${bound} ${position} ${wholes(samples)}`;
+  if (quick(1, plan)) return `point fold ${inputs} ${wholes(work)} ≡ ${record({ answer: answerOf(out), value: float(out.value), work: wholes(out.work) })}`;
+  return out.number === 0n ? null : `firstOf (pointRows ${inputs} ${work.length}) ≡ ${answerOf(out)}`;
+}
+
+function planner({ sigma, passes, inner }, out) {
+  if (sigma > MOST_SIGMA) return null;
+  return `planFor ${sigma} ${passes} ${inner} ≡ ${record({ answer: answerOf(out), radius: out.radius, edge: out.edge })}`;
+}
+
+function doublesIn({ bound, doubles, samples }, out) {
+  return `doublesIn ${bound} ${floats(doubles)} ${wholes(samples)} ≡ ${record({ answer: answerOf(out), cells: wholes(out.samples) })}`;
+}
+
+function output(shape, definition, write) {
+  return (args, out) => `${definition} ${shape(args, args.results)} ${args.bound} ${wholes(args.results)} ${write(args.cells)} ≡ ${record({
+    answer: answerOf(out), cells: write(out.cells),
   })}`;
 }
 
-// The equation of a case of each call, or nothing where it is too large to compute.
-const EQUATIONS = {
-  1: smoothing(common.seriesShape, ({ plan: p, bound }) => `smoothSeries fold ${plan(p)} ${bound}`, ({ plan: p }) => [p]),
-  2: smoothing(common.pictureShape,
-    ({ across, down, bound, width, height }) => `smoothPicture fold fold ${plan(across)} ${plan(down)} ${bound} ${width} ${height}`,
-    ({ across, down }) => [across, down]),
-  3: ({ plan: p, bound, position, value, samples, results, work }, out) => products([p], samples.length) <= MOST_PRODUCTS
-    && `editSeries fold ${plan(p)} ${bound} ${position} (${whole(value)}) ${[samples, results, work].map(wholes).join(' ')} ≡ ${record({
-      answer: answer(out), count: out.count, samples: wholes(out.samples), results: wholes(out.results), work: wholes(out.work),
-    })}`,
-  4: ({ plan: p, bound, position, samples, work }, out) => (products([p], 1) <= MOST_PRODUCTS
-    ? `point fold ${plan(p)} ${bound} ${position} ${wholes(samples)} ${wholes(work)} ≡ ${record({ answer: answer(out), value: float(out.value), work: wholes(out.work) })}`
-    : out.number > 0n && `firstOf (pointRows ${plan(p)} ${bound} ${position} ${wholes(samples)} ${work.length}) ≡ ${answer(out)}`),
-  5: ({ sigma, passes, inner }, out) => sigma <= MOST_SIGMA
-    && `planFor ${sigma} ${passes} ${inner} ≡ ${record({ answer: answer(out), radius: out.radius, edge: out.edge })}`,
-  6: ({ bound, doubles, samples }, out) => `doublesIn ${bound} ${floats(doubles)} ${wholes(samples)} ≡ ${record({ answer: answer(out), cells: wholes(out.samples) })}`,
-  7: output(common.seriesShape, 'wholeOut', wholes),
-  8: output(common.seriesShape, 'doublesOut', floats),
-  9: summaryOf(common.seriesShape),
-  10: output(common.pictureShape, 'wholeOut', wholes),
-  11: output(common.pictureShape, 'doublesOut', floats),
-  12: summaryOf(common.pictureShape),
-  13: ({ record: bytes }, out) => `readRecord ${naturals(bytes)} ≡ ${record({
-    refusal: out.number, radius: out.radius, inner: out.inner, edge: out.edge, passes: out.passes, bound: out.bound, start: out.start, size: out.length,
-  })}`,
-  14: ({ radius, inner, edge, passes, bound, samples, record: bytes }, out) => `writeRecord ${radius} ${inner} ${edge} ${passes} ${bound} ${wholes(samples)} ${naturals(bytes)} ≡ ${record({
-    answer: answer(out), slice: naturals(out.record),
-  })}`,
+function summary(shape) {
+  return (args, out) => `summary ${shape(args, args.results)} ${args.bound} ${wholes(args.results)} ≡ ${record({
+    answer: answerOf(out), lowest: float(out.lowest), highest: float(out.highest), lowestAt: out.indexOfLowest, highestAt: out.indexOfHighest,
+  })}`;
+}
+
+function readRecord({ record: bytes }, { number, length, ...numbers }) {
+  return `readRecord ${naturals(bytes)} ≡ ${record({ refusal: number, size: length, ...numbers })}`;
+}
+
+function writeRecord({ radius, inner, edge, passes, bound, samples, record: bytes }, out) {
+  const numbers = `${radius} ${inner} ${edge} ${passes} ${bound}`;
+  return `writeRecord ${numbers} ${wholes(samples)} ${naturals(bytes)} ≡ ${record({ answer: answerOf(out), slice: naturals(out.record) })}`;
+}
+
+function program({ record: bytes }, { number, radius, passes, length }) {
+  if (number === 0n && !quick(length / 4n, { radius, passes })) return null;
+  return `program ${naturals(bytes)} ≡ text ${JSON.stringify(report(bytes))}`;
+}
+
+const EQUATIONS = [
+  [1, smoothSeries],
+  [2, smoothPicture],
+  [3, edit],
+  [4, point],
+  [5, planner],
+  [6, doublesIn],
+  [7, output(series, 'wholeOut', wholes)],
+  [8, output(series, 'doublesOut', floats)],
+  [9, summary(series)],
+  [10, output(picture, 'wholeOut', wholes)],
+  [11, output(picture, 'doublesOut', floats)],
+  [12, summary(picture)],
+  [13, readRecord],
+  [13, program],
+  [14, writeRecord],
+];
+
+// The crate of equations. Every definition is opened to the prover.
+
+const OPENED = {
+  'lib.Ieee': 'ofInt div toSigned round size units odd span climb',
+  'lib.Count': 'trailingZeros',
+  'Rattle.algebra.specs.Within': 'sumWithin',
+  'Rattle.meaning.specs.Extension': 'emod reflect fold ext',
+  'Rattle.meaning.specs.Kernel': 'tap kernel width reach tapSum divisor',
+  'Rattle.meaning.specs.Smoothing': 'listOf result results weight near pixel grid picture',
+  'Rattle.meaning.specs.Refusals': 'firstOf firstWhere rowAt some planRows sizeRows ifDone',
+  'Rattle.meaning.specs.Values': 'nearest ratio takes doubleRows doublesIn outputRows converted lowestIn highestIn summary',
+  'Rattle.meaning.specs.Calls': 'smoothRows smoothed gained editRows countWhere changed editSeries pointRows point',
+  'Rattle.meaning.specs.Planner': 'largest radiusFor edgeFor planFor',
+  'Rattle.meaning.specs.Record': 'bytes number field sampleBytes sampleAt recordOf begins reading readRecord writeRecord',
+  'Rattle.meaning.specs.Program': 'text digits decimal firstLine resultLines report program',
 };
 
-const HEAD = `use Prim.Native.Nat.{ℕ}
-use mathlib.Core.Path.{_≡_, refl}
-use mathlib.Core.Bool.{true, false}
-use mathlib.Core.List.{List, [], _∷_}
-use lib.IntN.{ℤ, pos, negsuc}
-use lib.Ieee.{Float, nan, inf, fin, ofInt, div, toSigned, round, size, units, odd, span, climb}
-use lib.Count.{trailingZeros}
-use Rattle.algebra.specs.Within.{sumWithin}
-use Rattle.meaning.specs.Extension.{emod, reflect, fold, ext}
-use Rattle.meaning.specs.Kernel.{plan, tap, kernel, width, reach, tapSum, divisor}
-use Rattle.meaning.specs.Smoothing.{listOf, result, results, weight, near, pixel, grid, picture}
-use Rattle.meaning.specs.Refusals.{firstOf, firstWhere, rowAt, some, planRows, sizeRows, seriesOf, pictureOf, ifDone}
-use Rattle.meaning.specs.Values.{nearest, ratio, takes, doubleRows, doublesIn, outputRows, converted, wholeOut, doublesOut, lowestIn, highestIn, summary}
-use Rattle.meaning.specs.Calls.{smoothRows, smoothed, smoothSeries, smoothPicture, gained, editRows, countWhere, changed, editSeries, pointRows, point}
-use Rattle.meaning.specs.Planner.{largest, radiusFor, edgeFor, planFor}
-use Rattle.meaning.specs.Record.{bytes, number, field, sampleBytes, recordOf, begins, reading, readRecord, writeRecord}
-`;
+const HEAD = [
+  'use mathlib.Core.Path.{_≡_, refl}',
+  'use mathlib.Core.Bool.{true, false}',
+  'use mathlib.Core.List.{[], _∷_}',
+  'use lib.IntN.{pos, negsuc}',
+  'use lib.Ieee.{nan, inf, fin}',
+  'use Rattle.meaning.specs.Kernel.{plan}',
+  'use Rattle.meaning.specs.Refusals.{seriesOf, pictureOf}',
+  'use Rattle.meaning.specs.Values.{wholeOut, doublesOut}',
+  'use Rattle.meaning.specs.Calls.{smoothSeries, smoothPicture}',
+  ...Object.entries(OPENED).map(([from, names]) => `use ${from}.{${names.replaceAll(' ', ', ')}}`),
+];
 
-const OPENED = `unfolding ofInt div toSigned round size units odd span climb trailingZeros sumWithin emod reflect fold ext tap kernel width reach tapSum divisor listOf result results weight near pixel grid picture firstOf firstWhere rowAt some planRows sizeRows ifDone nearest ratio takes doubleRows doublesIn outputRows converted lowestIn highestIn summary smoothRows smoothed gained editRows countWhere changed editSeries pointRows point largest radiusFor edgeFor planFor bytes number field sampleBytes recordOf begins reading readRecord writeRecord`;
+const UNFOLDING = `unfolding ${Object.values(OPENED).join(' ')}`;
 
-function tooLarge(args) {
-  return Object.values(args).some((each) => each.passes > MOST_PASSES || each.length > MOST_CELLS);
+function small(args) {
+  return Object.values(args).every((each) => !(each.passes > MOST_PASSES) && !(each.length > MOST_CELLS));
 }
 
-// The module of a call's equations, and how many they are.
-function moduleOf(number, cases) {
-  const equations = cases.flatMap(({ args, outcome }) => (tooLarge(args) ? [] : EQUATIONS[number](args, outcome) || []));
-  const theorems = equations.map((equation, i) => `case-${i} : ${equation}\n${OPENED}\ncase-${i} = refl\n`);
-  return { text: [HEAD, ...theorems].join('\n'), count: equations.length };
+function equationsOf(call, equation) {
+  const cases = storedCases(call).map(({ words }) => decoded(words));
+  const equations = cases.filter(({ args }) => small(args)).map(({ args, outcome }) => equation(args, outcome));
+  return equations.filter((each) => each !== null);
 }
 
-function main() {
-  const folder = mkdtempSync(join(tmpdir(), 'agreement-'));
-  try {
-    for (const crate of ['algebra', 'meaning']) {
-      for (const part of ['src', 'specs']) cpSync(join(root, 'crates', crate, part), join(folder, 'crates', crate, part), { recursive: true });
-    }
-    writeFileSync(join(folder, 'crates.txt'), 'algebra:\nmeaning: algebra\nagreement: meaning algebra\n');
-    const specs = join(folder, 'crates', 'agreement', 'specs');
-    mkdirSync(specs, { recursive: true });
-    mkdirSync(join(folder, 'crates', 'agreement', 'src'));
-    writeFileSync(join(folder, 'crates', 'agreement', 'src', 'lib.rt'), '// Equations only: see specs/.\n');
-    let total = 0;
-    const modules = [];
-    for (const number of Object.keys(CALLS)) {
-      const cases = storedCases(number).map(({ words }) => decoded(words));
-      const { text, count } = moduleOf(number, cases);
-      console.log(`call ${number}: ${count} of ${cases.length} vectors`);
-      if (count === 0) throw new Error(`no vector of call ${number} is small enough`);
-      total += count;
-      modules.push(`Call${number}`);
-      writeFileSync(join(specs, `Call${number}.antt`), text);
-    }
-    writeFileSync(join(specs, 'Lib.antt'), modules.map((name) => `pub mod ${name}\n`).join(''));
-    const { status, stdout, stderr } = spawnSync('rt', ['check', 'agreement'], { cwd: folder, encoding: 'utf8' });
-    const proved = status === 0 && /^rt: agreement proved/m.test(stdout + stderr);
-    if (!proved) console.log((stdout + stderr).split('\n').filter((line) => /error|expected|but this|NOT/.test(line)).slice(0, 20).join('\n'));
-    console.log(proved ? `${total} passed, 0 failed` : 'the definitions and the independent program disagree');
-    process.exitCode = proved ? 0 : 1;
-  } finally {
-    rmSync(folder, { recursive: true, force: true });
+function moduleText(equations) {
+  const theorems = equations.map((each, n) => `\ncase-${n} : ${each}\n${UNFOLDING}\ncase-${n} = refl`);
+  return [...HEAD, ...theorems, ''].join('\n');
+}
+
+function writeRepository(folder) {
+  const root = join(dirname(fileURLToPath(import.meta.url)), '..');
+  const crate = (name, ...parts) => join(folder, 'crates', name, ...parts);
+  for (const name of ['algebra', 'meaning']) {
+    for (const part of ['src', 'specs']) cpSync(join(root, 'crates', name, part), crate(name, part), { recursive: true });
   }
+  mkdirSync(crate('agreement', 'src'), { recursive: true });
+  mkdirSync(crate('agreement', 'specs'));
+  writeFileSync(join(folder, 'crates.txt'), 'algebra:\nmeaning: algebra\nagreement: meaning algebra\n');
+  writeFileSync(crate('agreement', 'src', 'lib.rt'), '// Equations only: see specs/.\n');
+
+  let count = 0;
+  const modules = EQUATIONS.map(([call, equation], n) => {
+    const equations = equationsOf(call, equation);
+    const name = call in CALLS && equation !== program ? CALLS[call].name : 'program';
+    console.log(`${name}: ${equations.length} vectors`);
+    if (equations.length === 0) throw new Error(`no vector of ${name} is small enough`);
+    writeFileSync(crate('agreement', 'specs', `Part${n}.antt`), moduleText(equations));
+    count += equations.length;
+    return `pub mod Part${n}\n`;
+  });
+  writeFileSync(crate('agreement', 'specs', 'Lib.antt'), modules.join(''));
+  return count;
 }
 
-main();
+const folder = mkdtempSync(join(tmpdir(), 'agreement-'));
+try {
+  const count = writeRepository(folder);
+  const { status, stdout, stderr, error } = spawnSync('rt', ['check', 'agreement'], { cwd: folder, encoding: 'utf8' });
+  if (error) throw error;
+  const agrees = status === 0 && /^rt: agreement proved/m.test(stdout + stderr);
+  if (!agrees) console.log((stdout + stderr).split('\n').filter((line) => /^\/|^rt: |^ /.test(line)).slice(0, 30).join('\n'));
+  console.log(agrees ? `${count} passed, 0 failed` : 'the definitions and the independent program differ');
+  process.exitCode = agrees ? 0 : 1;
+} finally {
+  rmSync(folder, { recursive: true, force: true });
+}
