@@ -1,8 +1,14 @@
 -- Smoothing, edit and point: what each call answers, and what each lent slice holds afterwards.
--- "All refused calls keep every slice unaltered."
---   smoothSeries, smoothPicture   plans, bound, sizes; slices samples, results, work
---   editSeries                    plan, bound, position, new value; the same slices
---   point                         plan, bound, position; slices samples, work
+--   sampleRow M f t   row 11, over the samples that the test t picks
+--   smoothSeries      of plan, bound, samples, results, work: a Smoothed
+--   smoothPicture     of two plans, bound, width, height, samples, results, work: a Smoothed
+--   smoothed          both, given what the results become; rows smoothRows
+--   editRoom ss N     cells of work that edit and point ask
+--   gained            the results after an edit
+--   countWhere N t    at how many of 0 .. N - 1 the test t is true
+--   changed r new     how many results changed
+--   editSeries        of plan, bound, position, new value, samples, results, work: an Edited; rows editRows
+--   point             of plan, bound, position, samples, work: a Pointed; rows pointRows
 use Prim.Native.Nat.{ℕ, zero, suc, _+_, _*_}
 use mathlib.Core.Bool.{Bool, true, cond, _&&_, _||_}
 use mathlib.Core.List.{List, [], _∷_, _++_}
@@ -17,7 +23,6 @@ use Rattle.meaning.specs.Smoothing.{listOf, near, result, results, weigh
 use Rattle.meaning.specs.Refusals.{Answer, Row, _when_, firstOf, rowAt, differs, above, Shape, seriesOf, pictureOf, commonRows, ifDone, zeros}
 use Rattle.meaning.specs.Values.{ratio, plusZero}
 
--- row 11, over the samples that the call tests
 abbrev pub sampleRow : ℕ → List ℤ → (ℕ → Bool) → Row
 sampleRow M f tested = rowAt 11 (length f) (λ i. tested i && above M (at f i))
 
@@ -34,7 +39,6 @@ smoothRows s M f nr nw =
     ++ sampleRow M f (λ i. true)
     ∷ []
 
--- new is what the results become
 unfoldable pub smoothed : Shape → ℕ → List ℤ → List ℤ → List ℤ → List ℤ → Smoothed
 smoothed s M new f r w =
     let a = firstOf (smoothRows s M f (length r) (length w)) in
@@ -65,7 +69,6 @@ editRows ss M p v f r new nw =
     ∷ rowAt 12 (length r) (λ n. near ss n p && (above (M * divisor ss) (at r n) || above (M * divisor ss) (at new n)))
     ∷ []
 
--- at how many of 0 .. N - 1 the test is true
 unfoldable pub countWhere : ℕ → (ℕ → Bool) → ℕ
 countWhere zero test = 0
 countWhere (suc N) test = countWhere N test + cond (test N) 1 0

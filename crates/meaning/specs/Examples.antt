@@ -72,6 +72,7 @@ examples =
     ∷ planner 500 3 16 4 7
     ∷ planner 100 3 16 0 4
     ∷ planner 200 1 16 3 0
+    -- not marked
     ∷ series (plan 1 2 1 1) (plus (4 ∷ 0 ∷ 0 ∷ [])) (plus (16 ∷ 12 ∷ 4 ∷ []))
     ∷ whole (plan 1 2 1 1) (plus (4 ∷ 0 ∷ 0 ∷ [])) (plus (2 ∷ 2 ∷ 1 ∷ []))
     ∷ whole (plan 1 2 1 1) (minus (4 ∷ 0 ∷ 0 ∷ [])) (minus (2 ∷ 1 ∷ 0 ∷ []))

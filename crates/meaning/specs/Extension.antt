@@ -1,8 +1,10 @@
 -- The extension of a series beyond its ends.
---   at f i      sample i of f; 0 where f has none
---   emod n p    n mod p, never negative
---   fold N n    which of N samples stands at a whole n
---   ext φ f n   the series f at a whole n, under the index map φ
+--   at f i        sample i of f; 0 where f has none
+--   emod n p      n mod p, never negative
+--   IndexMap      which of N samples stands at a whole n
+--   reflect N m   m, or past N its mirror image, for m below 2N
+--   fold          the index map of document 01: half-sample symmetric, period 2N
+--   ext φ f n     the series f at a whole n, under the index map φ
 use Prim.Native.Nat.{ℕ, suc, _-_, _*_, _%_}
 use mathlib.Core.Bool.{cond}
 use mathlib.Core.List.{List}
@@ -17,7 +19,6 @@ unfoldable pub emod : ℤ → ℕ → ℕ
 emod (pos n) p = n % p
 emod (negsuc n) p = p - suc (n % p)
 
--- of N samples, the index that stands at a whole n
 abbrev pub IndexMap : Type 0
 IndexMap = ℕ → ℤ → ℕ
 

@@ -1,10 +1,12 @@
 -- Plans and their kernels. A plan is the list of its stages, one a pass.
+--   Stage          radius, inner weight and edge weight of one pass
 --   plan r b a K   document 01's plan (r, b, a, K): K equal stages
 --   tap s m        weight of offset m in one pass of stage s; 0 beyond radius + 1
 --   kernel ss m    weight of offset m after all of ss; of no stages, 1 at 0
 --   width ss       no weight lies farther out than this
 --   reach ss       how far a sample is felt
---   divisor ss     the kernel's sum
+--   tapSum s       the sum of one pass's taps
+--   divisor ss     the kernel's sum; of no stages, 1
 use Prim.Native.Nat.{ℕ, suc, _+_, _*_}
 use mathlib.Core.Bool.{cond}
 use mathlib.Core.List.{List, [], _∷_}

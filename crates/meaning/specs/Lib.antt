@@ -1,4 +1,4 @@
--- What Dungdapple promises, in the order to read it. Document 01 is the page behind each definition.
+-- What Dungdapple promises, in the order to read it. Document 01 is the page behind each definition; what stands in quotes is its own words.
 --   Limits      the numbers of the table of bounds
 --   Extension   a series beyond its ends
 --   Kernel      plans, tap row, K-fold kernel, divisor, reach
@@ -10,6 +10,8 @@
 --   Record      the job record: reader and writer
 --   Program     what `smooth` prints
 --   Examples    the page's examples, one table under one theorem
+-- Letters: ss a plan's stages, hs and vs those across and down; M the bound; N a length, W and H width and height;
+-- f samples, r results, w work; n and p positions; φ and ψ index maps.
 pub mod Limits
 pub mod Extension
 pub mod Kernel

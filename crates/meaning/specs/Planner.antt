@@ -1,7 +1,8 @@
--- From a standard deviation of s hundredths, for K passes with inner weight b.
---   largest n test        the largest of 0 .. n where the test is true; 0 where there is none
---   radiusFor, edgeFor    "the survey's fractional edge weight over b, rounded down"
---   planFor s K b         the call's outcome
+-- From a standard deviation of s hundredths to radius and edge weight, for K passes with inner weight b; Q is 10,000 K.
+--   largest n t         the largest of 0 .. n where the test t is true; 0 where there is none
+--   radiusFor s Q       the radius
+--   edgeFor s Q b r     the edge weight at radius r: "the survey's fractional edge weight over b, rounded down"
+--   planFor s K b       the call's outcome, a Planned
 use Prim.Native.Nat.{ℕ, zero, suc, _+_, _-_, _*_, _/_}
 use mathlib.Core.Bool.{Bool, cond}
 use mathlib.Core.List.{[], _∷_}

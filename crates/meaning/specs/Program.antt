@@ -1,7 +1,10 @@
 -- What the program `smooth` prints, as bytes, for the bytes of standard input.
---   text "ab"     the bytes of a text
---   decimal z     digits, with a sign where z is negative
---   program s     the whole text
+--   text "ab"       the bytes of a text
+--   digits n x      x in decimal, for x below 10^n and n above 0
+--   decimal z       z in decimal, with a sign where it is negative
+--   firstLine, resultLines i zs   the first line; the lines of results zs from index i on
+--   report D o      the text for the outcome o under divisor D
+--   program s       the text for the input s
 use Prim.Native.Nat.{ℕ, zero, suc, _+_, _/_, _%_}
 use Prim.Native.Char.{code}
 use Prim.Native.String.{String}
@@ -22,7 +25,6 @@ unfoldable pub text : String → List ℕ
 text String.[] = []
 text (String._∷_ c s) = code c ∷ text s
 
--- of a number below 10^n
 unfoldable pub digits : ℕ → ℕ → List ℕ
 digits zero x = []
 digits (suc n) x = cond (ltb x 10) [] (digits n (x / 10)) ++ ((code "0" + x % 10) ∷ [])
@@ -35,7 +37,7 @@ decimal (negsuc n) = text "-" ++ digits 20 (suc n)
 unfoldable pub firstLine : ℕ → ℕ → ℕ → List ℕ
 firstLine a b c = text "smooth " ++ decimal (pos a) ++ text " " ++ decimal (pos b) ++ text " " ++ decimal (pos c) ++ text "\n"
 
--- "Then index and result.": from index i on
+-- "Then index and result."
 unfoldable pub resultLines : ℕ → List ℤ → List ℕ
 resultLines i [] = []
 resultLines i (z ∷ zs) = decimal (pos i) ++ text " " ++ decimal z ++ text "\n" ++ resultLines (suc i) zs

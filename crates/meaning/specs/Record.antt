@@ -1,9 +1,15 @@
--- The job record, a list of bytes.
---   bytes n x      the n low bytes of x, high byte first;  number bs  what bytes stand for, the same way
---   field t v      "one-byte tag, two-byte length, value"
---   recordOf       the record of radius, inner and edge weight, passes, bound and samples
---   readRecord     the reader's outcome: the numbers, and the stretch of the record that holds the samples
---   writeRecord    the writer's: the answer, and the lent slice afterwards
+-- The job record, a list of bytes, all numbers high byte first.
+--   bytes n x         the n low bytes of x
+--   number bs         the number that bytes stand for; of none, 0
+--   field t v         a field of tag t and value v
+--   sampleBytes f     the bytes of samples;  sampleAt s i  sample i of such bytes
+--   recordOf          the record of radius, inner and edge weight, passes, bound and samples
+--   Job               what the reader answers: the numbers, and start and size of the stretch that holds the samples
+--   notWellFormed     the answer 14
+--   begins t n s      s begins with a field of tag t and n bytes
+--   reading t n s k   k, given the number in that field and what stands behind it; else 14
+--   readRecord        the reader's outcome
+--   writeRecord       the writer's outcome, a Written: the answer, and the lent slice afterwards
 use Prim.Native.Nat.{ℕ, zero, suc, _+_, _-_, _*_, _/_, _%_, _^_}
 use mathlib.Core.Bool.{Bool, cond, not, _&&_}
 use mathlib.Core.List.{List, [], _∷_, _++_}
@@ -23,6 +29,7 @@ unfoldable pub number : List ℕ → ℕ
 number [] = 0
 number (b ∷ bs) = b * 256 ^ length bs + number bs
 
+-- "one-byte tag, two-byte length, value"
 unfoldable pub field : ℕ → List ℕ → List ℕ
 field tag value = tag ∷ bytes 2 (length value) ++ value
 
@@ -31,7 +38,6 @@ unfoldable pub sampleBytes : List ℤ → List ℕ
 sampleBytes [] = []
 sampleBytes (z ∷ f) = bytes 4 (ofZ w32 z) ++ sampleBytes f
 
--- sample i of a stretch of samples
 unfoldable pub sampleAt : List ℕ → ℕ → ℤ
 sampleAt s i = toZ w32 (number (take 4 (drop (4 * i) s)))
 
@@ -53,11 +59,9 @@ pub record Job : Type 0 where
 abbrev pub notWellFormed : Job
 notWellFormed = record { refusal = 14; radius = 0; inner = 0; edge = 0; passes = 0; bound = 0; start = 0; size = 0 }
 
--- s begins with a field of this tag and n bytes
 unfoldable pub begins : ℕ → ℕ → List ℕ → Bool
 begins tag n s = eqb (number (take 1 s)) tag && eqb (number (take 2 (drop 1 s))) n && leb (3 + n) (length s)
 
--- on with the number in the field that s must begin with, and with what stands behind the field
 unfoldable pub reading : ℕ → ℕ → List ℕ → (ℕ → List ℕ → Job) → Job
 reading tag n s next = cond (begins tag n s) (next (number (take n (drop 3 s))) (drop (3 + n) s)) notWellFormed
 

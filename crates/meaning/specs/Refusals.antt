@@ -1,9 +1,19 @@
 -- The table of numbers. A call's rows stand in rising order, and it answers the first that applies.
---   firstOf rows       "The lowest number that applies to the call is given"; 0, done, where none does
+--   Answer             number and position
+--   Row                an answer, and whether it applies
+--   firstOf rows       the first answer that applies; 0, done, where none does
 --   n when b           row n, with position 0
---   rowAt n N t        row n, with the first of the indices 0 .. N - 1 that t finds offending
---   commonRows s M b   rows 1 to 8 of a series or picture s under bound M; b says that a lent slice is not the asked length
+--   firstWhere N t     the first of 0 .. N - 1 where the test t is true; N where there is none
+--   rowAt n N t        row n, at the first of 0 .. N - 1 where t is true
+--   some t xs          t is true of one of xs
+--   outside, differs   not from low to high; not the length asked
+--   above M z          z has size above M
+--   Shape              a series (seriesOf) or a picture (pictureOf): plans, divisor, cells, and whether row 7 applies
+--   planRows ps        rows 1 to 4 of the plans ps
+--   sizeRows s M b     rows 5 to 8 under bound M; b says that a lent slice is not of the length asked
+--   commonRows s M b   rows 1 to 8
 --   ifDone a new old   new where a is done, old where it is refused
+--   zeros w            zeros, as many as w has cells
 use Prim.Native.Nat.{ℕ, zero, suc, _*_}
 use mathlib.Core.Bool.{Bool, false, cond, not, _||_}
 use mathlib.Core.List.{List, [], _∷_, _++_}
@@ -21,6 +31,7 @@ pub record Row : Type 0 where
   pub answer : Answer
   pub applies : Bool
 
+-- "The lowest number that applies to the call is given"
 unfoldable pub firstOf : List Row → Answer
 firstOf [] = record { number = 0; position = 0 }
 firstOf (row ∷ rows) = cond (row .applies) (row .answer) (firstOf rows)
@@ -29,7 +40,6 @@ infix 3 _when_
 abbrev pub _when_ : ℕ → Bool → Row
 n when b = record { answer = record { number = n; position = 0 }; applies = b }
 
--- the first of 0 .. N - 1 where the test is true; N where there is none
 unfoldable pub firstWhere : ℕ → (ℕ → Bool) → ℕ
 firstWhere zero test = 0
 firstWhere (suc N) test = cond (test 0) 0 (suc (firstWhere N (λ i. test (suc i))))
@@ -37,7 +47,6 @@ firstWhere (suc N) test = cond (test 0) 0 (suc (firstWhere N (λ i. test (suc i)
 unfoldable pub rowAt : ℕ → ℕ → (ℕ → Bool) → Row
 rowAt n N test = record { answer = record { number = n; position = firstWhere N test }; applies = ltb (firstWhere N test) N }
 
--- is the test true of one of them?
 unfoldable pub some : {A : Type 0} → (A → Bool) → List A → Bool
 some test [] = false
 some test (x ∷ xs) = test x || some test xs
@@ -48,11 +57,9 @@ outside low high x = ltb x low || ltb high x
 abbrev pub differs : ℕ → ℕ → Bool
 differs n asked = not (eqb n asked)
 
--- of size above M
 abbrev pub above : ℕ → ℤ → Bool
 above M z = ltb M (natAbs z)
 
--- A series or a picture: its plans, one or two; how many cells it has; whether row 7 refuses its sizes.
 pub record Shape : Type 0 where
   pub plans : List (List Stage)
   pub divisor : ℕ
@@ -89,6 +96,7 @@ sizeRows s M lengths =
 abbrev pub commonRows : Shape → ℕ → Bool → List Row
 commonRows s M lengths = planRows (s .plans) ++ sizeRows s M lengths
 
+-- "All refused calls keep every slice unaltered."
 unfoldable pub ifDone : {A : Type 0} → Answer → A → A → A
 ifDone a new old = cond (eqb (a .number) 0) new old
 

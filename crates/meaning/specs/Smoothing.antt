@@ -1,11 +1,13 @@
 -- Results of a series and of a picture, under an index map φ; for a picture φ is that of rows, ψ that of columns.
---   listOf n g               g 0, g 1, .. g (n - 1)
---   result φ ss f n          the result at a whole n
---   results φ ss f           those of 0 .. N - 1
---   weight φ ss N n p        how much of sample p of N the result at n holds
---   near ss n p              n lies within reach of p
---   pixel φ ψ hs vs W H f    the result at column x and row y
---   picture φ ψ hs vs W H f  all of them, row after row
+--   listOf n g                    g 0, g 1, .. g (n - 1)
+--   result φ ss f n               the result at a whole n
+--   results φ ss f                those of 0 .. N - 1
+--   weight φ ss N n p             how much of sample p of N the result at n holds
+--   apart n p                     how far n is from p
+--   near ss n p                   n lies within reach of p
+--   pixel φ ψ hs vs W H f x y     the result at column x and row y
+--   grid W H g                    g x y for W columns of H rows, row after row
+--   picture φ ψ hs vs W H f       all results of a picture
 use Prim.Native.Nat.{ℕ, zero, suc, _+_, _-_, _*_}
 use mathlib.Core.Bool.{Bool, cond}
 use mathlib.Core.List.{List, [], _∷_, _++_}
@@ -31,7 +33,6 @@ results φ ss f = listOf (length f) (λ n. result φ ss f (pos n))
 unfoldable pub weight : IndexMap → List Stage → ℕ → ℤ → ℕ → ℤ
 weight φ ss N n p = sumWithin (width ss) (λ m. kernel ss m *ℤ pos (cond (eqb (φ N (n -ℤ m)) p) 1 0))
 
--- how far n is from p
 abbrev pub apart : ℕ → ℕ → ℕ
 apart n p = (n - p) + (p - n)
 
@@ -45,7 +46,6 @@ pixel φ ψ hs vs W H f x y =
     sumWithin (width vs) λ j.
     kernel hs i *ℤ kernel vs j *ℤ at f (ψ H (y -ℤ j) * W + φ W (x -ℤ i))
 
--- W cells a row, H rows
 unfoldable pub grid : ℕ → ℕ → (ℕ → ℕ → ℤ) → List ℤ
 grid W zero g = []
 grid W (suc H) g = listOf W (λ x. g x 0) ++ grid W H (λ x y. g x (suc y))

@@ -1,9 +1,14 @@
--- Values in and out. A series of N gives the shape `seriesOf ss N`, a picture `pictureOf hs vs W H`.
+-- Values in and out. The outputs take a shape: `seriesOf ss N` for a series, `pictureOf hs vs W H` for a picture.
+--   floor z d     z over d, rounded down, negative numbers too
 --   nearest z d   z over d to the nearest whole number, a half upward
 --   ratio z d     z over d as a double
+--   plusZero      the double 0, with the plus sign
 --   takes M x     the double x is a sample under bound M
---   doublesIn     bound; slices doubles, samples
---   wholeOut, doublesOut, summary   shape, bound; slices results and, but for the summary, cells
+--   Converted     the answer, and the cells afterwards
+--   doublesIn     of bound, doubles, samples; its rows are doubleRows
+--   wholeOut, doublesOut   of shape, bound, results, cells: each result by one conversion (converted); their rows are outputRows
+--   lowestIn, highestIn    the first index of the lowest and of the highest of results; 0 of none
+--   summary       of shape, bound, results: a Summary
 use Prim.Native.Nat.{ℕ, _*_, _/_, _%_}
 use mathlib.Core.Bool.{Bool, false, not, _&&_, _||_}
 use mathlib.Core.List.{List, [], _∷_, _++_, map}
@@ -16,7 +21,6 @@ use Rattle.meaning.specs.Limits.{maxBound, maxLength}
 use Rattle.meaning.specs.Extension.{at}
 use Rattle.meaning.specs.Refusals.{Answer, Row, _when_, firstOf, firstWhere, rowAt, some, outside, differs, above, Shape, commonRows, ifDone}
 
--- rounded down, negative numbers too
 abbrev pub floor : ℤ → ℕ → ℤ
 floor z d = shrZ z d
 
