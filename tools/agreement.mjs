@@ -24,8 +24,11 @@ const wholes = (slice) => list(slice, whole);
 const naturals = (slice) => list(slice, String);
 const floats = (slice) => list(slice, float);
 const planOf = ({ radius, inner, edge, passes }) => `(plan ${radius} ${inner} ${edge} ${passes})`;
-const record = (fields) => `record { ${Object.entries(fields).map(([name, value]) => `${name} = ${value}`).join('; ')} }`;
 const answerOf = ({ number, position = 0n }) => record({ number, position });
+
+function record(fields) {
+  return `record { ${Object.entries(fields).map(([name, value]) => `${name} = ${value}`).join('; ')} }`;
+}
 
 // A finite double is an odd number, or 0, times a power of 2.
 function float(double) {
@@ -53,63 +56,81 @@ function quick(cells, ...plans) {
 // The equations, of a call's arguments and its outcome by the independent program; null where it would take too long.
 // A call that is refused need not be computed whole: its rows decide.
 
+const outcomeIs = (call, out, fields) => `${call} ≡ ${record({ answer: answerOf(out), ...fields })}`;
+const answerIs = (rows, out) => `firstOf (${rows}) ≡ ${answerOf(out)}`;
+
 const series = ({ plan }, slice) => `(seriesOf ${planOf(plan)} ${slice.length})`;
 const picture = ({ across, down, width, height }) => `(pictureOf ${planOf(across)} ${planOf(down)} ${width} ${height})`;
 
-function smoothed(shape, call, { bound, samples, results, work }, out, isQuick) {
-  const [f, r, w] = [samples, results, work].map(wholes);
-  if (isQuick) return `${call} ${f} ${r} ${w} ≡ ${record({ answer: answerOf(out), results: wholes(out.results), work: wholes(out.work) })}`;
-  if (out.number === 0n) return null;
-  return `firstOf (smoothRows ${shape} ${bound} ${f} ${results.length} ${work.length}) ≡ ${answerOf(out)}`;
+// Rows 1 to 8 alone, for slices too long to write down. Whether their lengths are wrong is taken from the outcome.
+function longSlices(args, out) {
+  const shape = args.plan ? series(args, args.samples ?? args.results) : picture(args);
+  const refused = out.number >= 1n && out.number <= 8n;
+  return answerIs(`commonRows ${shape} ${args.bound} ${refused}`, refused ? out : { number: 0n });
+}
+
+function smoothed(call, shape, { bound, samples, results, work }, out, isQuick) {
+  if (isQuick) {
+    const slices = `${wholes(samples)} ${wholes(results)} ${wholes(work)}`;
+    return outcomeIs(`${call} ${slices}`, out, { results: wholes(out.results), work: wholes(out.work) });
+  }
+  const rows = `smoothRows ${shape} ${bound} ${wholes(samples)} ${results.length} ${work.length}`;
+  return out.number === 0n ? null : answerIs(rows, out);
 }
 
 function smoothSeries(args, out) {
-  const call = `smoothSeries fold ${planOf(args.plan)} ${args.bound}`;
-  return smoothed(series(args, args.samples), call, args, out, quick(args.samples.length, args.plan));
+  const { plan, bound, samples } = args;
+  const call = `smoothSeries fold ${planOf(plan)} ${bound}`;
+  return smoothed(call, series(args, samples), args, out, quick(samples.length, plan));
 }
 
 function smoothPicture(args, out) {
-  const { across, down, bound, width, height } = args;
+  const { across, down, bound, width, height, samples } = args;
   const call = `smoothPicture fold fold ${planOf(across)} ${planOf(down)} ${bound} ${width} ${height}`;
-  return smoothed(picture(args), call, args, out, quick(args.samples.length, across, down));
+  return smoothed(call, picture(args), args, out, quick(samples.length, across, down));
 }
 
 function edit({ plan, bound, position, value, samples, results, work }, out) {
   const inputs = `${planOf(plan)} ${bound} ${position} (${whole(value)}) ${wholes(samples)} ${wholes(results)}`;
   if (quick(samples.length, plan)) {
-    return `editSeries fold ${inputs} ${wholes(work)} ≡ ${record({
-      answer: answerOf(out), count: out.count, samples: wholes(out.samples), results: wholes(out.results), work: wholes(out.work),
-    })}`;
+    const after = { samples: wholes(out.samples), results: wholes(out.results), work: wholes(out.work) };
+    return outcomeIs(`editSeries fold ${inputs} ${wholes(work)}`, out, { count: out.count, ...after });
   }
-  if (out.number === 0n || out.number === 12n) return null;
-  return `firstOf (editRows ${inputs} ${wholes(results)} ${work.length}) ≡ ${answerOf(out)}`;
+  const untilTwelve = out.number !== 0n && out.number !== 12n;
+  return untilTwelve ? answerIs(`editRows ${inputs} ${wholes(results)} ${work.length}`, out) : null;
 }
 
 function point({ plan, bound, position, samples, work }, out) {
   const inputs = `${planOf(plan)} ${bound} ${position} ${wholes(samples)}`;
-  if (quick(1, plan)) return `point fold ${inputs} ${wholes(work)} ≡ ${record({ answer: answerOf(out), value: float(out.value), work: wholes(out.work) })}`;
-  return out.number === 0n ? null : `firstOf (pointRows ${inputs} ${work.length}) ≡ ${answerOf(out)}`;
+  if (quick(1, plan)) {
+    return outcomeIs(`point fold ${inputs} ${wholes(work)}`, out, { value: float(out.value), work: wholes(out.work) });
+  }
+  return out.number === 0n ? null : answerIs(`pointRows ${inputs} ${work.length}`, out);
 }
 
 function planner({ sigma, passes, inner }, out) {
   if (sigma > MOST_SIGMA) return null;
-  return `planFor ${sigma} ${passes} ${inner} ≡ ${record({ answer: answerOf(out), radius: out.radius, edge: out.edge })}`;
+  return outcomeIs(`planFor ${sigma} ${passes} ${inner}`, out, { radius: out.radius, edge: out.edge });
 }
 
 function doublesIn({ bound, doubles, samples }, out) {
-  return `doublesIn ${bound} ${floats(doubles)} ${wholes(samples)} ≡ ${record({ answer: answerOf(out), cells: wholes(out.samples) })}`;
+  return outcomeIs(`doublesIn ${bound} ${floats(doubles)} ${wholes(samples)}`, out, { cells: wholes(out.samples) });
 }
 
-function output(shape, definition, write) {
-  return (args, out) => `${definition} ${shape(args, args.results)} ${args.bound} ${wholes(args.results)} ${write(args.cells)} ≡ ${record({
-    answer: answerOf(out), cells: write(out.cells),
-  })}`;
+function output(definition, shape, write) {
+  return (args, out) => {
+    const inputs = `${shape(args, args.results)} ${args.bound} ${wholes(args.results)}`;
+    return outcomeIs(`${definition} ${inputs} ${write(args.cells)}`, out, { cells: write(out.cells) });
+  };
 }
 
 function summary(shape) {
-  return (args, out) => `summary ${shape(args, args.results)} ${args.bound} ${wholes(args.results)} ≡ ${record({
-    answer: answerOf(out), lowest: float(out.lowest), highest: float(out.highest), lowestAt: out.indexOfLowest, highestAt: out.indexOfHighest,
-  })}`;
+  return (args, out) => outcomeIs(`summary ${shape(args, args.results)} ${args.bound} ${wholes(args.results)}`, out, {
+    lowest: float(out.lowest),
+    highest: float(out.highest),
+    lowestAt: out.indexOfLowest,
+    highestAt: out.indexOfHighest,
+  });
 }
 
 function readRecord({ record: bytes }, { number, length, ...numbers }) {
@@ -117,8 +138,8 @@ function readRecord({ record: bytes }, { number, length, ...numbers }) {
 }
 
 function writeRecord({ radius, inner, edge, passes, bound, samples, record: bytes }, out) {
-  const numbers = `${radius} ${inner} ${edge} ${passes} ${bound}`;
-  return `writeRecord ${numbers} ${wholes(samples)} ${naturals(bytes)} ≡ ${record({ answer: answerOf(out), slice: naturals(out.record) })}`;
+  const inputs = `${radius} ${inner} ${edge} ${passes} ${bound} ${wholes(samples)} ${naturals(bytes)}`;
+  return outcomeIs(`writeRecord ${inputs}`, out, { slice: naturals(out.record) });
 }
 
 function program({ record: bytes }, { number, radius, passes, length }) {
@@ -133,11 +154,11 @@ const EQUATIONS = [
   [4, point],
   [5, planner],
   [6, doublesIn],
-  [7, output(series, 'wholeOut', wholes)],
-  [8, output(series, 'doublesOut', floats)],
+  [7, output('wholeOut', series, wholes)],
+  [8, output('doublesOut', series, floats)],
   [9, summary(series)],
-  [10, output(picture, 'wholeOut', wholes)],
-  [11, output(picture, 'doublesOut', floats)],
+  [10, output('wholeOut', picture, wholes)],
+  [11, output('doublesOut', picture, floats)],
   [12, summary(picture)],
   [13, readRecord],
   [13, program],
@@ -154,10 +175,12 @@ const OPENED = {
   'Rattle.meaning.specs.Kernel': 'tap kernel width reach tapSum divisor',
   'Rattle.meaning.specs.Smoothing': 'listOf result results weight near pixel grid picture',
   'Rattle.meaning.specs.Refusals': 'firstOf firstWhere rowAt some planRows sizeRows ifDone',
-  'Rattle.meaning.specs.Values': 'nearest ratio takes doubleRows doublesIn outputRows converted lowestIn highestIn summary',
+  'Rattle.meaning.specs.Values':
+    'nearest ratio takes doubleRows doublesIn outputRows converted lowestIn highestIn summary',
   'Rattle.meaning.specs.Calls': 'smoothRows smoothed gained editRows countWhere changed editSeries pointRows point',
   'Rattle.meaning.specs.Planner': 'largest radiusFor edgeFor planFor',
-  'Rattle.meaning.specs.Record': 'bytes number field sampleBytes sampleAt recordOf begins reading readRecord writeRecord',
+  'Rattle.meaning.specs.Record':
+    'bytes number field sampleBytes sampleAt recordOf begins reading readRecord writeRecord',
   'Rattle.meaning.specs.Program': 'text digits decimal firstLine resultLines report program',
 };
 
@@ -168,7 +191,7 @@ const HEAD = [
   'use lib.IntN.{pos, negsuc}',
   'use lib.Ieee.{nan, inf, fin}',
   'use Rattle.meaning.specs.Kernel.{plan}',
-  'use Rattle.meaning.specs.Refusals.{seriesOf, pictureOf}',
+  'use Rattle.meaning.specs.Refusals.{seriesOf, pictureOf, commonRows}',
   'use Rattle.meaning.specs.Values.{wholeOut, doublesOut}',
   'use Rattle.meaning.specs.Calls.{smoothSeries, smoothPicture}',
   ...Object.entries(OPENED).map(([from, names]) => `use ${from}.{${names.replaceAll(' ', ', ')}}`),
@@ -176,14 +199,16 @@ const HEAD = [
 
 const UNFOLDING = `unfolding ${Object.values(OPENED).join(' ')}`;
 
-function small(args) {
-  return Object.values(args).every((each) => !(each.passes > MOST_PASSES) && !(each.length > MOST_CELLS));
+function equationOf(equation, { args, outcome }) {
+  const values = Object.values(args);
+  if (values.some((each) => each.passes > MOST_PASSES)) return null;
+  if (values.every((each) => !(each.length > MOST_CELLS))) return equation(args, outcome);
+  return args.plan || args.across ? longSlices(args, outcome) : null;
 }
 
 function equationsOf(call, equation) {
   const cases = storedCases(call).map(({ words }) => decoded(words));
-  const equations = cases.filter(({ args }) => small(args)).map(({ args, outcome }) => equation(args, outcome));
-  return equations.filter((each) => each !== null);
+  return cases.map((each) => equationOf(equation, each)).filter((each) => each !== null);
 }
 
 function moduleText(equations) {
@@ -195,7 +220,9 @@ function writeRepository(folder) {
   const root = join(dirname(fileURLToPath(import.meta.url)), '..');
   const crate = (name, ...parts) => join(folder, 'crates', name, ...parts);
   for (const name of ['algebra', 'meaning']) {
-    for (const part of ['src', 'specs']) cpSync(join(root, 'crates', name, part), crate(name, part), { recursive: true });
+    for (const part of ['src', 'specs']) {
+      cpSync(join(root, 'crates', name, part), crate(name, part), { recursive: true });
+    }
   }
   mkdirSync(crate('agreement', 'src'), { recursive: true });
   mkdirSync(crate('agreement', 'specs'));
@@ -205,7 +232,7 @@ function writeRepository(folder) {
   let count = 0;
   const modules = EQUATIONS.map(([call, equation], n) => {
     const equations = equationsOf(call, equation);
-    const name = call in CALLS && equation !== program ? CALLS[call].name : 'program';
+    const name = equation === program ? 'program' : CALLS[call].name;
     console.log(`${name}: ${equations.length} vectors`);
     if (equations.length === 0) throw new Error(`no vector of ${name} is small enough`);
     writeFileSync(crate('agreement', 'specs', `Part${n}.antt`), moduleText(equations));
@@ -216,15 +243,26 @@ function writeRepository(folder) {
   return count;
 }
 
+function prove(folder) {
+  const options = { cwd: folder, encoding: 'utf8', maxBuffer: 2 ** 28 };
+  const { status, stdout, stderr, error } = spawnSync('rt', ['check', 'agreement'], options);
+  if (error) throw error;
+  return { proved: status === 0 && /^rt: agreement proved/m.test(stdout), said: stdout + stderr };
+}
+
+const MOST_SHOWN = 30;
+
 const folder = mkdtempSync(join(tmpdir(), 'agreement-'));
 try {
   const count = writeRepository(folder);
-  const { status, stdout, stderr, error } = spawnSync('rt', ['check', 'agreement'], { cwd: folder, encoding: 'utf8' });
-  if (error) throw error;
-  const agrees = status === 0 && /^rt: agreement proved/m.test(stdout + stderr);
-  if (!agrees) console.log((stdout + stderr).split('\n').filter((line) => /^\/|^rt: |^ /.test(line)).slice(0, 30).join('\n'));
-  console.log(agrees ? `${count} passed, 0 failed` : 'the definitions and the independent program differ');
-  process.exitCode = agrees ? 0 : 1;
+  const { proved, said } = prove(folder);
+  if (proved) {
+    console.log(`${count} passed, 0 failed`);
+  } else {
+    console.log(said.split('\n').filter((line) => /error|^ |NOT/.test(line)).slice(0, MOST_SHOWN).join('\n'));
+    console.log('the definitions and the independent program differ');
+    process.exitCode = 1;
+  }
 } finally {
   rmSync(folder, { recursive: true, force: true });
 }
