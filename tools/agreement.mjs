@@ -6,12 +6,13 @@ import { cpSync, mkdirSync, mkdtempSync, rmSync, writeFileSync } from 'node:fs';
 import { tmpdir } from 'node:os';
 import { dirname, join } from 'node:path';
 import { fileURLToPath } from 'node:url';
-import { report } from '../reference/record.mjs';
+import * as job from '../reference/record.mjs';
 import { storedCases } from '../reference/stored.mjs';
 import { CALLS, bitsOf, decoded } from '../reference/stream.mjs';
 
 // What the prover computes in good time.
 const MOST_CELLS = 64;
+const MOST_BYTES = 4_200;
 const MOST_PASSES = 1_000n;
 const MOST_SIGMA = 26_000n;
 const MOST_PRODUCTS = 60_000n;
@@ -117,15 +118,20 @@ function doublesIn({ bound, doubles, samples }, out) {
   return outcomeIs(`doublesIn ${bound} ${floats(doubles)} ${wholes(samples)}`, out, { cells: wholes(out.samples) });
 }
 
-function output(definition, shape, write) {
+function outputInputs({ plan, across, down, bound, width, height, results }) {
+  const limits = plan ? `${planOf(plan)} ${bound}` : `${planOf(across)} ${planOf(down)} ${bound} ${width} ${height}`;
+  return `${limits} ${wholes(results)}`;
+}
+
+function output(definition, write) {
   return (args, out) => {
-    const inputs = `${shape(args, args.results)} ${args.bound} ${wholes(args.results)}`;
-    return outcomeIs(`${definition} ${inputs} ${write(args.cells)}`, out, { cells: write(out.cells) });
+    const call = `${definition} ${outputInputs(args)} ${write(args.cells)}`;
+    return outcomeIs(call, out, { cells: write(out.cells) });
   };
 }
 
-function summary(shape) {
-  return (args, out) => outcomeIs(`summary ${shape(args, args.results)} ${args.bound} ${wholes(args.results)}`, out, {
+function summary(definition) {
+  return (args, out) => outcomeIs(`${definition} ${outputInputs(args)}`, out, {
     lowest: float(out.lowest),
     highest: float(out.highest),
     lowestAt: out.indexOfLowest,
@@ -134,7 +140,7 @@ function summary(shape) {
 }
 
 function readRecord({ record: bytes }, { number, length, ...numbers }) {
-  return `readRecord ${naturals(bytes)} ≡ ${record({ refusal: number, size: length, ...numbers })}`;
+  return outcomeIs(`readRecord ${naturals(bytes)}`, { number }, { size: length, ...numbers });
 }
 
 function writeRecord({ radius, inner, edge, passes, bound, samples, record: bytes }, out) {
@@ -142,9 +148,16 @@ function writeRecord({ radius, inner, edge, passes, bound, samples, record: byte
   return outcomeIs(`writeRecord ${inputs}`, out, { slice: naturals(out.record) });
 }
 
-function program({ record: bytes }, { number, radius, passes, length }) {
-  if (number === 0n && !quick(length / 4n, { radius, passes })) return null;
-  return `program ${naturals(bytes)} ≡ text ${JSON.stringify(report(bytes))}`;
+// The program on a record that was read, and on the record of a series that was smoothed.
+function programOfRecord({ record: bytes }, { number, radius, passes, length }) {
+  if (bytes.length > MOST_CELLS || (number === 0n && !quick(length / 4n, { radius, passes }))) return null;
+  return `program ${naturals(bytes)} ≡ text ${JSON.stringify(job.report(bytes))}`;
+}
+
+function programOfSeries({ plan, bound, samples }) {
+  const room = new Uint8Array(job.recordLength(samples.length));
+  const { number, record: bytes } = job.writeRecord({ ...plan, bound, samples, record: room });
+  return number === 0n ? programOfRecord({ record: bytes }, job.readRecord({ record: bytes })) : null;
 }
 
 const EQUATIONS = [
@@ -154,14 +167,15 @@ const EQUATIONS = [
   [4, point],
   [5, planner],
   [6, doublesIn],
-  [7, output('wholeOut', series, wholes)],
-  [8, output('doublesOut', series, floats)],
-  [9, summary(series)],
-  [10, output('wholeOut', picture, wholes)],
-  [11, output('doublesOut', picture, floats)],
-  [12, summary(picture)],
+  [7, output('wholeSeries', wholes)],
+  [8, output('doublesSeries', floats)],
+  [9, summary('summarySeries')],
+  [10, output('wholePicture', wholes)],
+  [11, output('doublesPicture', floats)],
+  [12, summary('summaryPicture')],
   [13, readRecord],
-  [13, program],
+  [13, programOfRecord, 'program'],
+  [1, programOfSeries, 'program'],
   [14, writeRecord],
 ];
 
@@ -192,7 +206,8 @@ const HEAD = [
   'use lib.Ieee.{nan, inf, fin}',
   'use Rattle.meaning.specs.Kernel.{plan}',
   'use Rattle.meaning.specs.Refusals.{seriesOf, pictureOf, commonRows}',
-  'use Rattle.meaning.specs.Values.{wholeOut, doublesOut}',
+  'use Rattle.meaning.specs.Values.{wholeSeries, doublesSeries, summarySeries}',
+  'use Rattle.meaning.specs.Values.{wholePicture, doublesPicture, summaryPicture}',
   'use Rattle.meaning.specs.Calls.{smoothSeries, smoothPicture}',
   ...Object.entries(OPENED).map(([from, names]) => `use ${from}.{${names.replaceAll(' ', ', ')}}`),
 ];
@@ -202,7 +217,9 @@ const UNFOLDING = `unfolding ${Object.values(OPENED).join(' ')}`;
 function equationOf(equation, { args, outcome }) {
   const values = Object.values(args);
   if (values.some((each) => each.passes > MOST_PASSES)) return null;
-  if (values.every((each) => !(each.length > MOST_CELLS))) return equation(args, outcome);
+  if (values.every((each) => !(each.length > (each.BYTES_PER_ELEMENT === 1 ? MOST_BYTES : MOST_CELLS)))) {
+    return equation(args, outcome);
+  }
   return args.plan || args.across ? longSlices(args, outcome) : null;
 }
 
@@ -230,9 +247,8 @@ function writeRepository(folder) {
   writeFileSync(crate('agreement', 'src', 'lib.rt'), '// Equations only: see specs/.\n');
 
   let count = 0;
-  const modules = EQUATIONS.map(([call, equation], n) => {
+  const modules = EQUATIONS.map(([call, equation, name = CALLS[call].name], n) => {
     const equations = equationsOf(call, equation);
-    const name = equation === program ? 'program' : CALLS[call].name;
     console.log(`${name}: ${equations.length} vectors`);
     if (equations.length === 0) throw new Error(`no vector of ${name} is small enough`);
     writeFileSync(crate('agreement', 'specs', `Part${n}.antt`), moduleText(equations));

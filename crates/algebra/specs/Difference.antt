@@ -5,7 +5,8 @@
 --   compare a b  `ge k e` with e : a ≡ b + k, or `lt k e` with e : b ≡ a + suc k; its type is Compared a b
 --   diff         rules for simp: sums, products and negations of differences become one difference
 --   linear       rules for omega: what `diff` leaves, an equation of two differences
--- An identity without cases: rw (rep a, rep b) (simp diff (omega linear)).
+-- An identity without cases: rw (rep a, rep b) (simp diff (omega linear)). Where constructors have met and computed, as in
+-- negsuc a -ℤ negsuc b, `diff` sees nothing: state the identity over variables, or use Order's of- and zarith.
 -- Laws: ⊖-is, ⊖-neg, ⊖-pos, ⊖-negsuc, ⊖-eq, ⊖-halves, ⊖-+, ⊖-*; rep, rep-pos, rep-negsuc, rep-neg; sub-pos, sub-neg.
 use mathlib.Core.Path.{_≡_, refl, sym, _∙_, ap}
 use Prim.Native.Nat.{ℕ, zero, suc, _+_, _*_, _-_, _≤_}

@@ -1,7 +1,7 @@
 -- Finite sums.
 --   sum n f      f 0 + .. + f (n − 1); 0 where n is 0
 --   sumZ s n f   f s + f (s + 1) + .. + f (s + n − 1), from a whole number s on; 0 where n is 0
--- Laws: sum-ext, sum-zero, sum-const, sum-+, sum-*, sum-neg, sum-swap;
+-- Laws: sum-ext, sum-none, sum-const, sum-+, sum-*, sum-neg, sum-swap;
 -- sum-first, sum-split, sum-blocks, sum-shift, sum-rev, sum-telescope; sum-wide, sum-same, sum-only;
 -- sum-abs, sum-nonneg, sum-positive; sumZ-shift, sumZ-split, sumZ-rev.
 use mathlib.Core.Path.{_≡_, refl, sym, _∙_, ap, ap₂}
@@ -29,10 +29,10 @@ unfolding sum
 sum-ext zero h = refl
 sum-ext (suc n) h = ap₂ _+ℤ_ (sum-ext n (λ i l. h i (omega arith))) (h n (omega arith))
 
-pub sum-zero : (n : ℕ) → sum n (λ i. pos 0) ≡ pos 0
+pub sum-none : (n : ℕ) {f : ℕ → ℤ} → ((i : ℕ) → i < n → f i ≡ pos 0) → sum n f ≡ pos 0
 unfolding sum
-sum-zero zero = refl
-sum-zero (suc n) = rw (sum-zero n)
+sum-none zero h = refl
+sum-none (suc n) h = ap₂ _+ℤ_ (sum-none n (λ i l. h i (omega arith))) (h n (omega arith))
 
 pub sum-const : (n : ℕ) (c : ℤ) → sum n (λ i. c) ≡ pos n *ℤ c
 unfolding sum
@@ -56,7 +56,7 @@ sum-neg (suc n) f = rw (sum-neg n f) (sym (negℤ-+ℤ (sum n f) (f n)))
 
 pub sum-swap : (m n : ℕ) (f : ℕ → ℕ → ℤ) → sum m (λ i. sum n (λ j. f i j)) ≡ sum n (λ j. sum m (λ i. f i j))
 unfolding sum
-sum-swap zero n f = sym (sum-zero n)
+sum-swap zero n f = sym (sum-none n (λ j l. refl))
 sum-swap (suc m) n f = rw (sum-swap m n f) (sym (sum-+ n (λ j. sum m (λ i. f i j)) (λ j. f m j)))
 
 -- ---- the range taken apart
@@ -102,7 +102,7 @@ sum-telescope (suc n) f = rw (sum-telescope n f) (ring 3 (λ a b c. a ⊝ c ⊕ 
 
 -- ---- where most terms are 0
 pub sum-wide : (m n : ℕ) (f : ℕ → ℤ) → m ≤ n → ((i : ℕ) → m ≤ i → f i ≡ pos 0) → sum n f ≡ sum m f
-sum-wide m n f l h = ap (λ k. sum k f) to ∙ sum-split m (n - m) f ∙ ap (λ z. sum m f +ℤ z) (sum-ext (n - m) (λ i t. h (m + i) (omega arith)) ∙ sum-zero (n - m)) ∙ +ℤ-idr (sum m f)
+sum-wide m n f l h = ap (λ k. sum k f) to ∙ sum-split m (n - m) f ∙ ap (λ z. sum m f +ℤ z) (sum-none (n - m) (λ i t. h (m + i) (omega arith))) ∙ +ℤ-idr (sum m f)
   where
     to : n ≡ m + (n - m)
     to = omega arith
@@ -120,7 +120,7 @@ sum-only zero p f l h = absurd (omega arith)
 sum-only (suc n) p f l h = go (ℕ-discrete p n) (sum-only n p f)
   where
     go : Dec (p ≡ n) → (p < n → ((i : ℕ) → i < n → i ≢ p → f i ≡ pos 0) → sum n f ≡ f p) → sum n f +ℤ f n ≡ f p
-    go (yes e) ih = ap₂ _+ℤ_ (sum-ext n (λ i t. h i (omega arith) (omega arith)) ∙ sum-zero n) (ap f (sym e)) ∙ +ℤ-idl (f p)
+    go (yes e) ih = ap₂ _+ℤ_ (sum-none n (λ i t. h i (omega arith) (omega arith))) (ap f (sym e)) ∙ +ℤ-idl (f p)
     go (no e) ih = ap₂ _+ℤ_ (ih (omega arith) (λ i t. h i (omega arith))) (h n (omega arith) (omega arith)) ∙ +ℤ-idr (f p)
 
 -- ---- bounds

@@ -1,8 +1,8 @@
 -- Sums from the centre outward.
 --   sumWithin R f  f summed over every whole m with |m| ≤ R
 --   Beyond w f     f is 0 farther out than w
--- Laws: within-ext, within-zero, within-const, within-+, within-*, within-swap, within-sum, within-neg;
--- within-halves, within-interval; within-wide, within-step, within-shift;
+-- Laws: within-ext, within-halves, within-none, within-const, within-+, within-*, within-swap, within-sum, within-neg;
+-- within-interval; beyond-*, within-wide, within-step, within-shift;
 -- within-abs, within-weighted, within-nonneg, within-positive.
 use mathlib.Core.Path.{_≡_, refl, sym, _∙_, ap, ap₂}
 use Prim.Native.Nat.{ℕ, zero, suc, _+_, _*_, _≤_, _<_}
@@ -11,10 +11,10 @@ use native.Mathlib.Omega.{arith}
 use lib.IntN.{ℤ, pos, negsuc, negℤ, natAbs, predℤ, _+ℤ_, _-ℤ_, _*ℤ_, +ℤ-idl, +ℤ-idr, +ℤ-assoc, +ℤ-comm, +ℤ-predℤ, negℤ-+ℤ}
 use lib.Signed.{_≤ℤ_, _<ℤ_}
 use Rattle.algebra.specs.Difference.{rep, diff, linear}
-use Rattle.algebra.specs.Ring.{ac, *ℤ-idl, *ℤ-+ℤ}
+use Rattle.algebra.specs.Ring.{ac, *ℤ-idl, *ℤ-zero-l, *ℤ-+ℤ}
 use Rattle.algebra.specs.Order.{nonneg-+, positive-+-l, positive-+-r}
 use Rattle.algebra.specs.Size.{Abs, abs-self, abs-weaken, abs-+, abs-*, natAbs-neg, natAbs-nonneg}
-use Rattle.algebra.specs.Sum.{sum, sum-first, sum-ext, sum-wide, sum-abs, sum-nonneg, sum-positive, sumZ}
+use Rattle.algebra.specs.Sum.{sum, sum-first, sum-ext, sum-none, sum-wide, sum-abs, sum-nonneg, sum-positive, sumZ}
 
 unfoldable pub sumWithin : ℕ → (ℤ → ℤ) → ℤ
 sumWithin zero f = f (pos 0)
@@ -23,17 +23,21 @@ sumWithin (suc R) f = sumWithin R f +ℤ (f (pos (suc R)) +ℤ f (negsuc R))
 abbrev pub Beyond : ℕ → (ℤ → ℤ) → Type 0
 Beyond w f = (m : ℤ) → w < natAbs m → f m ≡ pos 0
 
--- ---- linear
+-- ---- its terms
 pub within-ext : (R : ℕ) {f g : ℤ → ℤ} → ((m : ℤ) → natAbs m ≤ R → f m ≡ g m) → sumWithin R f ≡ sumWithin R g
 unfolding sumWithin
 within-ext zero h = h (pos 0) (omega arith)
 within-ext (suc R) h = ap₂ _+ℤ_ (within-ext R (λ m l. h m (omega arith))) (ap₂ _+ℤ_ (h (pos (suc R)) (le-refl _)) (h (negsuc R) (le-refl _)))
 
-pub within-zero : (R : ℕ) → sumWithin R (λ m. pos 0) ≡ pos 0
-unfolding sumWithin
-within-zero zero = refl
-within-zero (suc R) = rw (within-zero R)
+pub within-halves : (R : ℕ) (f : ℤ → ℤ) → sumWithin R f ≡ sum (suc R) (λ i. f (pos i)) +ℤ sum R (λ i. f (negsuc i))
+unfolding sumWithin sum
+within-halves zero f = sym (+ℤ-idr _ ∙ +ℤ-idl _)
+within-halves (suc R) f = rw (within-halves R f) (simp ac)
 
+pub within-none : (R : ℕ) {f : ℤ → ℤ} → ((m : ℤ) → natAbs m ≤ R → f m ≡ pos 0) → sumWithin R f ≡ pos 0
+within-none R {f} h = rw (within-halves R f) (ap₂ _+ℤ_ (sum-none (suc R) (λ i l. h (pos i) (omega arith))) (sum-none R (λ i l. h (negsuc i) l)))
+
+-- ---- linear
 pub within-const : (R : ℕ) (c : ℤ) → sumWithin R (λ m. c) ≡ pos (2 * R + 1) *ℤ c
 unfolding sumWithin
 within-const zero c = sym (*ℤ-idl c)
@@ -56,7 +60,7 @@ within-swap (suc R) Q f = rw (within-swap R Q f, ← within-+ Q (f (pos (suc R))
 
 pub within-sum : (R n : ℕ) (f : ℤ → ℕ → ℤ) → sumWithin R (λ m. sum n (λ i. f m i)) ≡ sum n (λ i. sumWithin R (λ m. f m i))
 unfolding sum
-within-sum R zero f = within-zero R
+within-sum R zero f = within-none R (λ m l. refl)
 within-sum R (suc n) f = within-+ R (λ m. sum n (λ i. f m i)) (λ m. f m n) ∙ ap (λ z. z +ℤ sumWithin R (λ m. f m n)) (within-sum R n f)
 
 -- counted from the other end
@@ -65,12 +69,7 @@ unfolding sumWithin
 within-neg zero f = refl
 within-neg (suc R) f = ap₂ _+ℤ_ (within-neg R f) (+ℤ-comm (f (negsuc R)) (f (pos (suc R))))
 
--- ---- as sums over a range
-pub within-halves : (R : ℕ) (f : ℤ → ℤ) → sumWithin R f ≡ sum (suc R) (λ i. f (pos i)) +ℤ sum R (λ i. f (negsuc i))
-unfolding sumWithin sum
-within-halves zero f = sym (+ℤ-idr _ ∙ +ℤ-idl _)
-within-halves (suc R) f = rw (within-halves R f) (simp ac)
-
+-- ---- as a sum over a range
 pub within-interval : (R : ℕ) (c : ℤ) (f : ℤ → ℤ) → sumWithin R (λ m. f (c -ℤ m)) ≡ sumZ (c -ℤ pos R) (2 * R + 1) f
 unfolding sumWithin sum
 within-interval zero c f = ap f (sym (+ℤ-idr (c -ℤ pos 0))) ∙ sym (+ℤ-idl _)
@@ -99,6 +98,9 @@ within-interval (suc R) c f =
     regroup s a b = simp ac
 
 -- ---- where f is 0 far out
+pub beyond-* : {w : ℕ} {f : ℤ → ℤ} (g : ℤ → ℤ) → Beyond w f → Beyond w (λ m. f m *ℤ g m)
+beyond-* g h m l = *ℤ-zero-l (g m) (h m l)
+
 pub within-wide : (w R : ℕ) (f : ℤ → ℤ) → w ≤ R → Beyond w f → sumWithin R f ≡ sumWithin w f
 within-wide w R f l h =
     within-halves R f

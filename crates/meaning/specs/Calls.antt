@@ -2,13 +2,13 @@
 --   sampleRow M f t   row 11, over the samples that the test t picks
 --   smoothSeries      of plan, bound, samples, results, work: a Smoothed
 --   smoothPicture     of two plans, bound, width, height, samples, results, work: a Smoothed
---   smoothed          both, given what the results become; rows smoothRows
---   editRoom ss N     cells of work that edit and point ask
+--   smoothed          the outcome of either, `new` being the results where it is done; its rows are smoothRows
+--   editRoom ss N     cells of work that edit and point ask, 2N under every plan
 --   gained            the results after an edit
 --   countWhere N t    at how many of 0 .. N - 1 the test t is true
 --   changed r new     how many results changed
---   editSeries        of plan, bound, position, new value, samples, results, work: an Edited; rows editRows
---   point             of plan, bound, position, samples, work: a Pointed; rows pointRows
+--   editSeries        of plan, bound, position, new value, samples, results, work: an Edited; its rows are editRows
+--   point             of plan, bound, position, samples, work: a Pointed; its rows are pointRows
 use Prim.Native.Nat.{ℕ, zero, suc, _+_, _*_}
 use mathlib.Core.Bool.{Bool, true, cond, _&&_, _||_}
 use mathlib.Core.List.{List, [], _∷_, _++_}

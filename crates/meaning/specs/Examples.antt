@@ -1,20 +1,20 @@
 -- Document 01's examples as one table under one theorem, the marked ones first. Plans are (r, b, a, K).
 --   Example         a call's inputs, and last what must come out
---   Holds e         the whole outcome of the call is that: its answer, and what it leaves in every slice
+--   Holds e         that is the call's whole outcome, the content of every slice with it; of `divided` and `bounded`, the divisor and rows 1 to 8
 --   examples-hold   every row of the table holds
 use Prim.Native.Nat.{ℕ}
 use Prim.Native.String.{String}
 use mathlib.Core.Path.{_≡_, refl}
 use mathlib.Core.Bool.{false}
 use mathlib.Core.List.{List, [], _∷_, _++_, map}
-use lib.ListN.{length, set}
+use lib.ListN.{set}
 use lib.IntN.{ℤ, pos, negℤ}
 use Rattle.algebra.specs.Within.{sumWithin}
 use Rattle.meaning.specs.Extension.{emod, reflect, fold, ext}
 use Rattle.meaning.specs.Kernel.{Stage, plan, tap, kernel, width, reach, tapSum, divisor}
 use Rattle.meaning.specs.Smoothing.{listOf, result, results, weight, near, pixel, grid, picture}
 use Rattle.meaning.specs.Refusals.{Answer, firstOf, firstWhere, rowAt, some, planRows, sizeRows, commonRows, seriesOf, ifDone, zeros}
-use Rattle.meaning.specs.Values.{nearest, outputRows, converted, wholeOut}
+use Rattle.meaning.specs.Values.{nearest, outputRows, converted, wholeSeries}
 use Rattle.meaning.specs.Calls.{smoothRows, smoothed, smoothSeries, smoothPicture, gained, editRows, countWhere, changed, editSeries}
 use Rattle.meaning.specs.Planner.{largest, radiusFor, edgeFor, planFor}
 use Rattle.meaning.specs.Record.{bytes, number, sampleAt, begins, reading, readRecord}
@@ -41,13 +41,13 @@ data Example : Type 0 where
 abbrev done : Answer
 done = record { number = 0; position = 0 }
 
--- The bound is 9. The slices lent for results, work and cells hold the samples at first.
+-- The bound is 9. Results to be written, work and cells are lent with the samples in them; an edit's results, and those put out, are the smoothing.
 abbrev Holds : Example → Type 0
 Holds (series ss f r) = smoothSeries fold ss 9 f f f ≡ record { answer = done; results = r; work = zeros f }
 Holds (raster hs vs W H f r) = smoothPicture fold fold hs vs 9 W H f f f ≡ record { answer = done; results = r; work = zeros f }
 Holds (edit ss f p v r n) = editSeries fold ss 9 p v f (results fold ss f) (f ++ f) ≡ record { answer = done; count = n; samples = set f p v; results = r; work = zeros (f ++ f) }
 Holds (planner s K b r a) = planFor s K b ≡ record { answer = done; radius = r; edge = a }
-Holds (whole ss f c) = wholeOut (seriesOf ss (length f)) 9 (results fold ss f) f ≡ record { answer = done; cells = c }
+Holds (whole ss f c) = wholeSeries ss 9 (results fold ss f) f ≡ record { answer = done; cells = c }
 Holds (divided ss d) = divisor ss ≡ d
 Holds (bounded ss M n) = firstOf (commonRows (seriesOf ss 1) M false) ≡ record { number = n; position = 0 }
 Holds (job s t) = program s ≡ text t

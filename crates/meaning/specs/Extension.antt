@@ -2,7 +2,7 @@
 --   at f i        sample i of f; 0 where f has none
 --   emod n p      n mod p, never negative
 --   IndexMap      which of N samples stands at a whole n
---   reflect N m   m, or past N its mirror image, for m below 2N
+--   reflect N m   m where it is below N, else 2N-1-m; for m below 2N
 --   fold          the index map of document 01: half-sample symmetric, period 2N
 --   ext φ f n     the series f at a whole n, under the index map φ
 use Prim.Native.Nat.{ℕ, suc, _-_, _*_, _%_}
@@ -25,7 +25,7 @@ IndexMap = ℕ → ℤ → ℕ
 unfoldable pub reflect : ℕ → ℕ → ℕ
 reflect N m = cond (ltb m N) m (2 * N - 1 - m)
 
--- "takes m = n mod 2N (never negative) and reads sample m if m < N, else sample 2N-1-m"
+-- "the extension at any whole n takes m = n mod 2N (never negative) and reads sample m if m < N, else sample 2N-1-m"
 unfoldable pub fold : IndexMap
 fold N n = reflect N (emod n (2 * N))
 

@@ -4,9 +4,8 @@
 --   tap s m        weight of offset m in one pass of stage s; 0 beyond radius + 1
 --   kernel ss m    weight of offset m after all of ss; of no stages, 1 at 0
 --   width ss       no weight lies farther out than this
---   reach ss       how far a sample is felt
---   tapSum s       the sum of one pass's taps
---   divisor ss     the kernel's sum; of no stages, 1
+--   tapReach s     how far a sample is felt after one pass;  reach ss  after all
+--   tapSum s       the sum of one pass's taps;  divisor ss  of the kernel; of no stages, 1
 use Prim.Native.Nat.{ℕ, suc, _+_, _*_}
 use mathlib.Core.Bool.{cond}
 use mathlib.Core.List.{List, [], _∷_}
@@ -37,9 +36,12 @@ width [] = 0
 width (s ∷ ss) = width ss + suc (s .radius)
 
 -- "The reach is K(r+1) if a > 0, and K·r if a = 0."
+abbrev pub tapReach : Stage → ℕ
+tapReach s = cond (eqb (s .edge) 0) (s .radius) (suc (s .radius))
+
 unfoldable pub reach : List Stage → ℕ
 reach [] = 0
-reach (s ∷ ss) = reach ss + cond (eqb (s .edge) 0) (s .radius) (suc (s .radius))
+reach (s ∷ ss) = reach ss + tapReach s
 
 -- "Its sum is D = (2r+1)b + 2a."
 unfoldable pub tapSum : Stage → ℕ

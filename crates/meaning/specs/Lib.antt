@@ -10,8 +10,11 @@
 --   Record      the job record: reader and writer
 --   Program     what `smooth` prints
 --   Examples    the page's examples, one table under one theorem
--- Letters: ss a plan's stages, hs and vs those across and down; M the bound; N a length, W and H width and height;
--- f samples, r results, w work; n and p positions; φ and ψ index maps.
+-- Document 01's calls are these with `fold` for every index map and `plan r b a K` for every list of stages.
+-- A lent slice that an outcome does not name is only read.
+-- Letters: φ, ψ index maps; s a stage, a shape, sigma or bytes; ss a plan's stages, hs and vs those across and down;
+-- r, b, a, K the numbers of a plan; M the bound; N a length, W and H width and height; n and p positions;
+-- f samples, r results, w work, nr and nw the lengths of the last two.
 pub mod Limits
 pub mod Extension
 pub mod Kernel

@@ -1,4 +1,4 @@
--- The bounds of document 01. Radius and edge weight go from 0, all others from 1.
+-- The bounds of document 01. Radius and edge weight go from 0, the other numbers of its table from 1.
 --   maxPasses, maxRadius, maxInner   of a plan; the edge weight goes to one less than the inner weight
 --   maxBound                         of the sample bound M
 --   maxResult                        of M times the divisor

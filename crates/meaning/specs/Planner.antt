@@ -32,5 +32,5 @@ unfoldable pub planFor : ℕ → ℕ → ℕ → Planned
 planFor s K b =
     let Q = 10000 * K in
     let r = radiusFor s Q in
-    let a = firstOf ((1 when outside 1 maxPasses K) ∷ (3 when outside 1 maxInner b) ∷ (13 when outside 1 maxSigma s) ∷ (15 when ltb maxRadius r) ∷ []) in
-    record { answer = a; radius = ifDone a r 0; edge = ifDone a (edgeFor s Q b r) 0 }
+    let answer = firstOf ((1 when outside 1 maxPasses K) ∷ (3 when outside 1 maxInner b) ∷ (13 when outside 1 maxSigma s) ∷ (15 when ltb maxRadius r) ∷ []) in
+    record { answer = answer; radius = ifDone answer r 0; edge = ifDone answer (edgeFor s Q b r) 0 }

@@ -46,6 +46,7 @@ resultLines i (z ∷ zs) = decimal (pos i) ++ text " " ++ decimal z ++ text "\n"
 unfoldable pub report : ℕ → Smoothed → List ℕ
 report D o = ifDone (o .answer) (firstLine 0 D (length (o .results)) ++ resultLines 0 (o .results)) (firstLine (o .answer .number) (o .answer .position) 0)
 
+-- "(above 4,123 bytes is 14)"; "14 comes before all others"
 unfoldable pub program : List ℕ → List ℕ
 program s =
     let j = readRecord s in
@@ -53,4 +54,4 @@ program s =
     let ss = plan (j .radius) (j .inner) (j .edge) (j .passes) in
     let room = replicate N (pos 0) in
     let o = smoothSeries fold ss (j .bound) (listOf N (sampleAt (drop (j .start) s))) room room in
-    cond (ltb maxJob (length s) || ltb 0 (j .refusal)) (firstLine 14 0 0) (report (divisor ss) o)
+    cond (ltb maxJob (length s) || ltb 0 (j .answer .number)) (firstLine 14 0 0) (report (divisor ss) o)

@@ -4,7 +4,7 @@
 --   field t v         a field of tag t and value v
 --   sampleBytes f     the bytes of samples;  sampleAt s i  sample i of such bytes
 --   recordOf          the record of radius, inner and edge weight, passes, bound and samples
---   Job               what the reader answers: the numbers, and start and size of the stretch that holds the samples
+--   Job               what the reader answers: the numbers, and the stretch that holds the samples, its start and size in bytes
 --   notWellFormed     the answer 14
 --   begins t n s      s begins with a field of tag t and n bytes
 --   reading t n s k   k, given the number in that field and what stands behind it; else 14
@@ -21,6 +21,7 @@ use mir.Val.{ofZ, toZ}
 use Rattle.meaning.specs.Limits.{maxSamples}
 use Rattle.meaning.specs.Refusals.{Answer, _when_, firstOf, outside, differs, ifDone}
 
+-- "all high byte first"
 unfoldable pub bytes : ℕ → ℕ → List ℕ
 bytes zero x = []
 bytes (suc n) x = (x / 256 ^ n % 256) ∷ bytes n x
@@ -33,7 +34,7 @@ number (b ∷ bs) = b * 256 ^ length bs + number bs
 unfoldable pub field : ℕ → List ℕ → List ℕ
 field tag value = tag ∷ bytes 2 (length value) ++ value
 
--- "6 samples (4 each, two's complement ..)"
+-- "6 samples (4 each, two's complement; 1 to 1,024 samples)"
 unfoldable pub sampleBytes : List ℤ → List ℕ
 sampleBytes [] = []
 sampleBytes (z ∷ f) = bytes 4 (ofZ w32 z) ++ sampleBytes f
@@ -46,7 +47,7 @@ unfoldable pub recordOf : ℕ → ℕ → ℕ → ℕ → ℕ → List ℤ → L
 recordOf r b a K M f = field 1 (bytes 2 r) ++ field 2 (bytes 1 b) ++ field 3 (bytes 1 a) ++ field 4 (bytes 1 K) ++ field 5 (bytes 4 M) ++ field 6 (sampleBytes f)
 
 pub record Job : Type 0 where
-  pub refusal : ℕ
+  pub answer : Answer
   pub radius : ℕ
   pub inner : ℕ
   pub edge : ℕ
@@ -57,7 +58,7 @@ pub record Job : Type 0 where
 
 -- "at 14 the numbers are 0 and the stretch is empty"
 abbrev pub notWellFormed : Job
-notWellFormed = record { refusal = 14; radius = 0; inner = 0; edge = 0; passes = 0; bound = 0; start = 0; size = 0 }
+notWellFormed = record { answer = record { number = 14; position = 0 }; radius = 0; inner = 0; edge = 0; passes = 0; bound = 0; start = 0; size = 0 }
 
 unfoldable pub begins : ℕ → ℕ → List ℕ → Bool
 begins tag n s = eqb (number (take 1 s)) tag && eqb (number (take 2 (drop 1 s))) n && leb (3 + n) (length s)
@@ -73,9 +74,10 @@ readRecord s =
     reading 3 1 s₂ λ a s₃.
     reading 4 1 s₃ λ K s₄.
     reading 5 4 s₄ λ M s₅.
+    -- the samples take all that is left, so nothing can trail them
     let n = length s₅ - 3 in
     let good = begins 6 n s₅ && eqb (n % 4) 0 && not (outside 1 maxSamples (n / 4)) in
-    cond good (record { refusal = 0; radius = r; inner = b; edge = a; passes = K; bound = M; start = length s - n; size = n }) notWellFormed
+    cond good (record { answer = record { number = 0; position = 0 }; radius = r; inner = b; edge = a; passes = K; bound = M; start = length s - n; size = n }) notWellFormed
 
 pub record Written : Type 0 where
   pub answer : Answer

@@ -10,8 +10,8 @@
 --   above M z          z has size above M
 --   Shape              a series (seriesOf) or a picture (pictureOf): plans, divisor, cells, and whether row 7 applies
 --   planRows ps        rows 1 to 4 of the plans ps
---   sizeRows s M b     rows 5 to 8 under bound M; b says that a lent slice is not of the length asked
---   commonRows s M b   rows 1 to 8
+--   sizeRows s M wrongLength     rows 5 to 8 under bound M; wrongLength says that row 8 applies
+--   commonRows s M wrongLength   rows 1 to 8
 --   ifDone a new old   new where a is done, old where it is refused
 --   zeros w            zeros, as many as w has cells
 use Prim.Native.Nat.{ℕ, zero, suc, _*_}
@@ -44,6 +44,7 @@ unfoldable pub firstWhere : ℕ → (ℕ → Bool) → ℕ
 firstWhere zero test = 0
 firstWhere (suc N) test = cond (test 0) 0 (suc (firstWhere N (λ i. test (suc i))))
 
+-- "Position is 0 except at 11 and 12, where it is the first offending index."
 unfoldable pub rowAt : ℕ → ℕ → (ℕ → Bool) → Row
 rowAt n N test = record { answer = record { number = n; position = firstWhere N test }; applies = ltb (firstWhere N test) N }
 
@@ -69,6 +70,7 @@ pub record Shape : Type 0 where
 abbrev pub seriesOf : List Stage → ℕ → Shape
 seriesOf ss N = record { plans = ss ∷ []; divisor = divisor ss; cells = N; badSize = outside 1 maxLength N }
 
+-- "the divisor is the product of both divisors"
 abbrev pub pictureOf : List Stage → List Stage → ℕ → ℕ → Shape
 pictureOf hs vs W H = record {
   plans = hs ∷ vs ∷ [];
@@ -77,6 +79,7 @@ pictureOf hs vs W H = record {
   badSize = outside 1 maxSide W || outside 1 maxSide H || ltb maxLength (W * H);
 }
 
+-- "K, r, b, a not allowed (either plan of a picture)"
 unfoldable pub planRows : List (List Stage) → List Row
 planRows ps =
     (1 when some (λ ss. outside 1 maxPasses (length ss)) ps)
@@ -85,16 +88,17 @@ planRows ps =
     ∷ (4 when some (some (λ s. leb (s .inner) (s .edge))) ps)
     ∷ []
 
+-- "M not allowed"; "M times the divisor too large"; "a length, width, height or cell count not allowed"; "a lent slice is not the asked length"
 unfoldable pub sizeRows : Shape → ℕ → Bool → List Row
-sizeRows s M lengths =
+sizeRows s M wrongLength =
     (5 when outside 1 maxBound M)
     ∷ (6 when ltb maxResult (M * s .divisor))
     ∷ (7 when s .badSize)
-    ∷ (8 when lengths)
+    ∷ (8 when wrongLength)
     ∷ []
 
 abbrev pub commonRows : Shape → ℕ → Bool → List Row
-commonRows s M lengths = planRows (s .plans) ++ sizeRows s M lengths
+commonRows s M wrongLength = planRows (s .plans) ++ sizeRows s M wrongLength
 
 -- "All refused calls keep every slice unaltered."
 unfoldable pub ifDone : {A : Type 0} → Answer → A → A → A

@@ -29,7 +29,7 @@ result φ ss f n = sumWithin (width ss) (λ m. kernel ss m *ℤ ext φ f (n -ℤ
 unfoldable pub results : IndexMap → List Stage → List ℤ → List ℤ
 results φ ss f = listOf (length f) (λ n. result φ ss f (pos n))
 
--- the taps at which the extension reads sample p
+-- the sum of the taps at which the extension reads sample p
 unfoldable pub weight : IndexMap → List Stage → ℕ → ℤ → ℕ → ℤ
 weight φ ss N n p = sumWithin (width ss) (λ m. kernel ss m *ℤ pos (cond (eqb (φ N (n -ℤ m)) p) 1 0))
 

@@ -1,4 +1,4 @@
--- Values in and out. The outputs take a shape: `seriesOf ss N` for a series, `pictureOf hs vs W H` for a picture.
+-- Values in and out.
 --   floor z d     z over d, rounded down, negative numbers too
 --   nearest z d   z over d to the nearest whole number, a half upward
 --   ratio z d     z over d as a double
@@ -6,9 +6,12 @@
 --   takes M x     the double x is a sample under bound M
 --   Converted     the answer, and the cells afterwards
 --   doublesIn     of bound, doubles, samples; its rows are doubleRows
---   wholeOut, doublesOut   of shape, bound, results, cells: each result by one conversion (converted); their rows are outputRows
---   lowestIn, highestIn    the first index of the lowest and of the highest of results; 0 of none
---   summary       of shape, bound, results: a Summary
+--   converted g   the outcome of an output that turns each result into a cell by g; its rows are outputRows
+--   wholeOut, doublesOut           of shape, bound, results, cells
+--   lowestIn, highestIn            the first index of the lowest and of the highest of results; 0 of none
+--   summary                        of shape, bound, results: a Summary
+--   wholeSeries, doublesSeries, summarySeries      the three of a series: of plan, bound, and the slices
+--   wholePicture, doublesPicture, summaryPicture   of two plans, bound, width, height, and the slices
 use Prim.Native.Nat.{ℕ, _*_, _/_, _%_}
 use mathlib.Core.Bool.{Bool, false, not, _&&_, _||_}
 use mathlib.Core.List.{List, [], _∷_, _++_, map}
@@ -19,7 +22,8 @@ use lib.Signed.{ltZ, shrZ}
 use lib.Ieee.{Float, nan, inf, fin, binary64, ofInt, div, toSigned, up, down}
 use Rattle.meaning.specs.Limits.{maxBound, maxLength}
 use Rattle.meaning.specs.Extension.{at}
-use Rattle.meaning.specs.Refusals.{Answer, Row, _when_, firstOf, firstWhere, rowAt, some, outside, differs, above, Shape, commonRows, ifDone}
+use Rattle.meaning.specs.Kernel.{Stage}
+use Rattle.meaning.specs.Refusals.{Answer, Row, _when_, firstOf, firstWhere, rowAt, some, outside, differs, above, Shape, seriesOf, pictureOf, commonRows, ifDone}
 
 abbrev pub floor : ℤ → ℕ → ℤ
 floor z d = shrZ z d
@@ -62,7 +66,7 @@ doublesIn M xs f =
 
 -- "test 1 to 8, and 12 over all results"
 unfoldable pub outputRows : Shape → ℕ → Bool → List ℤ → List Row
-outputRows s M lengths r = commonRows s M lengths ++ rowAt 12 (length r) (λ i. above (M * s .divisor) (at r i)) ∷ []
+outputRows s M wrongLength r = commonRows s M wrongLength ++ rowAt 12 (length r) (λ i. above (M * s .divisor) (at r i)) ∷ []
 
 unfoldable pub converted : {A : Type 0} → (ℤ → A) → Shape → ℕ → List ℤ → List A → Converted A
 converted g s M r cells =
@@ -100,3 +104,22 @@ summary s M r =
       lowestAt = ifDone a (lowestIn r) 0;
       highestAt = ifDone a (highestIn r) 0;
     }
+
+-- "N is the length .. for the three outputs, of the results slice."
+abbrev pub wholeSeries : List Stage → ℕ → List ℤ → List ℤ → Converted ℤ
+wholeSeries ss M r cells = wholeOut (seriesOf ss (length r)) M r cells
+
+abbrev pub doublesSeries : List Stage → ℕ → List ℤ → List Float → Converted Float
+doublesSeries ss M r cells = doublesOut (seriesOf ss (length r)) M r cells
+
+abbrev pub summarySeries : List Stage → ℕ → List ℤ → Summary
+summarySeries ss M r = summary (seriesOf ss (length r)) M r
+
+abbrev pub wholePicture : List Stage → List Stage → ℕ → ℕ → ℕ → List ℤ → List ℤ → Converted ℤ
+wholePicture hs vs M W H r cells = wholeOut (pictureOf hs vs W H) M r cells
+
+abbrev pub doublesPicture : List Stage → List Stage → ℕ → ℕ → ℕ → List ℤ → List Float → Converted Float
+doublesPicture hs vs M W H r cells = doublesOut (pictureOf hs vs W H) M r cells
+
+abbrev pub summaryPicture : List Stage → List Stage → ℕ → ℕ → ℕ → List ℤ → Summary
+summaryPicture hs vs M W H r = summary (pictureOf hs vs W H) M r
