@@ -6,11 +6,10 @@
 --   takes M x     the double x is a sample under bound M
 --   Converted     the answer, and the cells afterwards
 --   doublesIn     of bound, doubles, samples; its rows are doubleRows
---   converted g   the outcome of an output that turns each result into a cell by g; its rows are outputRows
---   wholeOut, doublesOut           of shape, bound, results, cells
---   lowestIn, highestIn            the first index of the lowest and of the highest of results; 0 of none
---   summary                        of shape, bound, results: a Summary
---   wholeSeries, doublesSeries, summarySeries      the three of a series: of plan, bound, and the slices
+--   converted g   each result over the divisor, by g: of shape, bound, results, cells; its rows are outputRows
+--   lowestIn, highestIn   the first index of the lowest and of the highest of results; 0 of none
+--   summary       of shape, bound, results: a Summary
+--   wholeSeries, doublesSeries, summarySeries      these of a series: of plan, bound, and the slices
 --   wholePicture, doublesPicture, summaryPicture   of two plans, bound, width, height, and the slices
 use Prim.Native.Nat.{ℕ, _*_, _/_, _%_}
 use mathlib.Core.Bool.{Bool, false, not, _&&_, _||_}
@@ -68,16 +67,10 @@ doublesIn M xs f =
 unfoldable pub outputRows : Shape → ℕ → Bool → List ℤ → List Row
 outputRows s M wrongLength r = commonRows s M wrongLength ++ rowAt 12 (length r) (λ i. above (M * s .divisor) (at r i)) ∷ []
 
-unfoldable pub converted : {A : Type 0} → (ℤ → A) → Shape → ℕ → List ℤ → List A → Converted A
+unfoldable pub converted : {A : Type 0} → (ℤ → ℕ → A) → Shape → ℕ → List ℤ → List A → Converted A
 converted g s M r cells =
     let a = firstOf (outputRows s M (differs (length r) (s .cells) || differs (length cells) (s .cells)) r) in
-    record { answer = a; cells = ifDone a (map g r) cells }
-
-abbrev pub wholeOut : Shape → ℕ → List ℤ → List ℤ → Converted ℤ
-wholeOut s = converted (λ z. nearest z (s .divisor)) s
-
-abbrev pub doublesOut : Shape → ℕ → List ℤ → List Float → Converted Float
-doublesOut s = converted (λ z. ratio z (s .divisor)) s
+    record { answer = a; cells = ifDone a (map (λ z. g z (s .divisor)) r) cells }
 
 -- "lowest and highest are chosen among the whole results": the first that none is below, that none is above
 unfoldable pub lowestIn : List ℤ → ℕ
@@ -107,19 +100,19 @@ summary s M r =
 
 -- "N is the length .. for the three outputs, of the results slice."
 abbrev pub wholeSeries : List Stage → ℕ → List ℤ → List ℤ → Converted ℤ
-wholeSeries ss M r cells = wholeOut (seriesOf ss (length r)) M r cells
+wholeSeries ss M r cells = converted nearest (seriesOf ss (length r)) M r cells
 
 abbrev pub doublesSeries : List Stage → ℕ → List ℤ → List Float → Converted Float
-doublesSeries ss M r cells = doublesOut (seriesOf ss (length r)) M r cells
+doublesSeries ss M r cells = converted ratio (seriesOf ss (length r)) M r cells
 
 abbrev pub summarySeries : List Stage → ℕ → List ℤ → Summary
 summarySeries ss M r = summary (seriesOf ss (length r)) M r
 
 abbrev pub wholePicture : List Stage → List Stage → ℕ → ℕ → ℕ → List ℤ → List ℤ → Converted ℤ
-wholePicture hs vs M W H r cells = wholeOut (pictureOf hs vs W H) M r cells
+wholePicture hs vs M W H r cells = converted nearest (pictureOf hs vs W H) M r cells
 
 abbrev pub doublesPicture : List Stage → List Stage → ℕ → ℕ → ℕ → List ℤ → List Float → Converted Float
-doublesPicture hs vs M W H r cells = doublesOut (pictureOf hs vs W H) M r cells
+doublesPicture hs vs M W H r cells = converted ratio (pictureOf hs vs W H) M r cells
 
 abbrev pub summaryPicture : List Stage → List Stage → ℕ → ℕ → ℕ → List ℤ → Summary
 summaryPicture hs vs M W H r = summary (pictureOf hs vs W H) M r
