@@ -98,7 +98,7 @@ summary s M r =
       highestAt = ifDone a (highestIn r) 0;
     }
 
--- "N is the length .. for the three outputs, of the results slice."
+-- "N is the length of the samples slice; for doubles in, of the doubles slice; for the three outputs, of the results slice."
 abbrev pub wholeSeries : List Stage → ℕ → List ℤ → List ℤ → Converted ℤ
 wholeSeries ss M r cells = converted nearest (seriesOf ss (length r)) M r cells
 
