@@ -19,7 +19,8 @@ use lib.Signed.{ltZ}
 use lib.Ieee.{Float}
 use Rattle.meaning.specs.Extension.{at, IndexMap}
 use Rattle.meaning.specs.Kernel.{Stage, divisor}
-use Rattle.meaning.specs.Smoothing.{listOf, near, result, results, weight, picture}
+use Rattle.meaning.specs.Smoothing.{listOf, near, result, results, weight}
+use Rattle.meaning.specs.Picture.{picture}
 use Rattle.meaning.specs.Refusals.{Answer, Row, _when_, firstOf, rowAt, differs, above, Shape, seriesOf, pictureOf, commonRows, ifDone, zeros}
 use Rattle.meaning.specs.Values.{ratio, plusZero}
 

@@ -12,7 +12,8 @@ use lib.IntN.{ℤ, pos, negℤ}
 use Rattle.algebra.specs.Within.{sumWithin}
 use Rattle.meaning.specs.Extension.{emod, reflect, fold, ext}
 use Rattle.meaning.specs.Kernel.{Stage, plan, tap, kernel, width, reach, tapSum, divisor}
-use Rattle.meaning.specs.Smoothing.{listOf, result, results, weight, near, pixel, grid, picture}
+use Rattle.meaning.specs.Smoothing.{listOf, result, results, weight, near}
+use Rattle.meaning.specs.Picture.{pixel, grid, picture}
 use Rattle.meaning.specs.Refusals.{Answer, firstOf, firstWhere, rowAt, some, planRows, sizeRows, commonRows, seriesOf, ifDone, zeros}
 use Rattle.meaning.specs.Values.{nearest, outputRows, converted, wholeSeries}
 use Rattle.meaning.specs.Calls.{smoothRows, smoothed, smoothSeries, smoothPicture, gained, editRows, countWhere, changed, editSeries}

@@ -6,6 +6,7 @@
 --   width ss       no weight lies farther out than this
 --   tapReach s     how far a sample is felt after one pass;  reach ss  after all
 --   tapSum s       the sum of one pass's taps;  divisor ss  of the kernel; of no stages, 1
+--   moment ss      the kernel's second moment: the divisor times its variance
 use Prim.Native.Nat.{ℕ, suc, _+_, _*_}
 use mathlib.Core.Bool.{cond}
 use mathlib.Core.List.{List, [], _∷_}
@@ -51,3 +52,6 @@ tapSum s = (2 * s .radius + 1) * s .inner + 2 * s .edge
 unfoldable pub divisor : List Stage → ℕ
 divisor [] = 1
 divisor (s ∷ ss) = tapSum s * divisor ss
+
+unfoldable pub moment : List Stage → ℤ
+moment ss = sumWithin (width ss) (λ m. kernel ss m *ℤ (m *ℤ m))

@@ -2,7 +2,8 @@
 --   Limits      the numbers of the table of bounds
 --   Extension   a series beyond its ends
 --   Kernel      plans, tap row, K-fold kernel, divisor, reach
---   Smoothing   results of a series and of a picture; the weight of a sample in a result
+--   Smoothing   results of a series; the weight of a sample in a result
+--   Picture     results of a picture
 --   Refusals    the table of numbers, and the lowest that applies
 --   Values      doubles in; whole numbers, doubles and summary out
 --   Calls       smoothing a series and a picture, an edit, a point: what each answers and leaves
@@ -19,6 +20,7 @@ pub mod Limits
 pub mod Extension
 pub mod Kernel
 pub mod Smoothing
+pub mod Picture
 pub mod Refusals
 pub mod Values
 pub mod Calls
