@@ -1,0 +1,96 @@
+-- The kernel of a list of stages.
+--   far m j   what is farther out than w + R is, moved by j of at most R, farther out than w
+-- Laws: tap-inside, tap-edge, tap-symmetric, tap-nonneg, tap-sum;
+-- kernel-symmetric, kernel-nonneg, kernel-beyond, kernel-sum;
+-- convolve-cons (a stage in front: what the taps make of what the rest makes).
+use mathlib.Core.Path.{_≡_, refl, sym, _∙_, ap, ap₂}
+use mathlib.Core.List.{List, [], _∷_}
+use Prim.Native.Nat.{ℕ, zero, suc, _+_, _*_, _≤_, _<_}
+use native.Mathlib.Nat.{le-refl}
+use native.Mathlib.Omega.{arith}
+use lib.IntN.{ℤ, pos, negsuc, negℤ, natAbs, _+ℤ_, _-ℤ_, _*ℤ_, *ℤ-comm, -ℤ-+ℤ-cancel, negℤ-+ℤ, negℤ-negℤ}
+use lib.Signed.{_≤ℤ_}
+use borrow.Author.Tests.{le-leb, lt-leb, eq-eqb, ne-eqb}
+use Rattle.algebra.specs.Ring.{ac, *ℤ-idr, *ℤ-zero-r}
+use Rattle.algebra.specs.Order.{nonneg-pos, nonneg-*}
+use Rattle.algebra.specs.Size.{natAbs-neg, natAbs-back}
+use Rattle.algebra.specs.Within.{sumWithin, Beyond, beyond-*, within-ext, within-none, within-const, within-*, within-swap, within-neg, within-shift, within-nonneg}
+use Rattle.meaning.specs.Kernel.{Stage, tap, kernel, width, tapSum, divisor}
+
+-- ---- one pass
+pub tap-inside : (s : Stage) (m : ℤ) → natAbs m ≤ s .radius → tap s m ≡ pos (s .inner)
+unfolding tap
+tap-inside s m h = rw (le-leb _ _ h)
+
+pub tap-edge : (s : Stage) (m : ℤ) → natAbs m ≡ suc (s .radius) → tap s m ≡ pos (s .edge)
+unfolding tap
+tap-edge s m h = rw (lt-leb (natAbs m) (s .radius) (omega arith), eq-eqb _ _ h)
+
+pub tap-symmetric : (s : Stage) (m : ℤ) → tap s (negℤ m) ≡ tap s m
+unfolding tap
+tap-symmetric s m = rw (natAbs-neg m)
+
+pub tap-nonneg : (s : Stage) (m : ℤ) → pos 0 ≤ℤ tap s m
+unfolding tap
+tap-nonneg s m = nonneg-pos
+
+pub tap-sum : (s : Stage) → sumWithin (suc (s .radius)) (tap s) ≡ pos (tapSum s)
+unfolding sumWithin tapSum
+tap-sum s = ap₂ _+ℤ_ (within-ext r (tap-inside s) ∙ within-const r (pos (s .inner))) (ap₂ _+ℤ_ (tap-edge s (pos (suc r)) refl) (tap-edge s (negsuc r) refl)) ∙ ap pos (omega arith)
+  where
+    r : ℕ
+    r = s .radius
+
+-- ---- the kernel
+neg-sub : (m j : ℤ) → negℤ m -ℤ j ≡ negℤ (m -ℤ negℤ j)
+neg-sub m j = simp (negℤ-+ℤ, negℤ-negℤ)
+
+pub kernel-symmetric : (ss : List Stage) (m : ℤ) → kernel ss (negℤ m) ≡ kernel ss m
+unfolding kernel
+kernel-symmetric [] m = rw (natAbs-neg m)
+kernel-symmetric (s ∷ ss) m =
+    within-ext _ (λ j l. ap₂ _*ℤ_ (sym (tap-symmetric s j)) (ap (kernel ss) (neg-sub m j) ∙ kernel-symmetric ss (m -ℤ negℤ j)))
+    ∙ within-neg _ (λ j. tap s j *ℤ kernel ss (m -ℤ j))
+
+pub kernel-nonneg : (ss : List Stage) (m : ℤ) → pos 0 ≤ℤ kernel ss m
+unfolding kernel
+kernel-nonneg [] m = nonneg-pos
+kernel-nonneg (s ∷ ss) m = within-nonneg _ (λ j l. nonneg-* (tap-nonneg s j) (kernel-nonneg ss (m -ℤ j)))
+
+pub far : (m j : ℤ) {w R : ℕ} → w + R < natAbs m → natAbs j ≤ R → w < natAbs (m -ℤ j)
+far m j h l = omega (arith, natAbs-back m j)
+
+pub kernel-beyond : (ss : List Stage) → Beyond (width ss) (kernel ss)
+unfolding kernel width
+kernel-beyond [] m h = rw (ne-eqb (natAbs m) 0 (omega arith))
+kernel-beyond (s ∷ ss) m h = within-none _ (λ j l. *ℤ-zero-r (tap s j) (kernel-beyond ss (m -ℤ j) (far m j h l)))
+
+-- ---- a stage in front
+module _ (s : Stage) (ss : List Stage) (g : ℤ → ℤ) where
+  inside : (m : ℤ) → kernel (s ∷ ss) m *ℤ g m ≡ sumWithin (suc (s .radius)) (λ j. tap s j *ℤ (kernel ss (m -ℤ j) *ℤ g m))
+  unfolding kernel
+  inside m = *ℤ-comm (kernel (s ∷ ss) m) (g m) ∙ sym (within-* _ (g m) _) ∙ within-ext _ (λ j l. simp ac)
+
+  moved : (j : ℤ) → natAbs j ≤ suc (s .radius) → sumWithin (width (s ∷ ss)) (λ m. kernel ss (m -ℤ j) *ℤ g m) ≡ sumWithin (width ss) (λ m. kernel ss m *ℤ g (m +ℤ j))
+  unfolding width
+  moved j l =
+      within-ext _ (λ m t. ap (λ z. kernel ss (m -ℤ j) *ℤ g z) (sym (-ℤ-+ℤ-cancel m j)))
+      ∙ within-shift (width ss) _ (λ m. kernel ss m *ℤ g (m +ℤ j)) j (omega arith) (beyond-* (λ m. g (m +ℤ j)) (kernel-beyond ss))
+
+  pub convolve-cons : sumWithin (width (s ∷ ss)) (λ m. kernel (s ∷ ss) m *ℤ g m) ≡ sumWithin (suc (s .radius)) (λ j. tap s j *ℤ sumWithin (width ss) (λ m. kernel ss m *ℤ g (m +ℤ j)))
+  convolve-cons =
+      within-ext _ (λ m l. inside m)
+      ∙ within-swap _ _ (λ m j. tap s j *ℤ (kernel ss (m -ℤ j) *ℤ g m))
+      ∙ within-ext _ (λ j l. within-* _ (tap s j) (λ m. kernel ss (m -ℤ j) *ℤ g m) ∙ ap (λ z. tap s j *ℤ z) (moved j l))
+
+-- ---- the sum
+pub kernel-sum : (ss : List Stage) → sumWithin (width ss) (kernel ss) ≡ pos (divisor ss)
+unfolding divisor
+kernel-sum [] = unfold sumWithin width kernel in refl
+kernel-sum (s ∷ ss) =
+    within-ext _ (λ m l. sym (*ℤ-idr (kernel (s ∷ ss) m)))
+    ∙ convolve-cons s ss (λ m. pos 1)
+    ∙ within-ext _ (λ j l. *ℤ-comm (tap s j) _ ∙ ap (λ z. z *ℤ tap s j) (within-ext _ (λ m t. *ℤ-idr (kernel ss m)) ∙ kernel-sum ss))
+    ∙ within-* _ (pos (divisor ss)) (tap s)
+    ∙ ap (λ z. pos (divisor ss) *ℤ z) (tap-sum s)
+    ∙ *ℤ-comm (pos (divisor ss)) (pos (tapSum s))
