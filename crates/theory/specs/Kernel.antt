@@ -1,6 +1,6 @@
 -- The kernel of a list of stages.
 --   far m j   what is farther out than w + R is, moved by j of at most R, farther out than w
--- Laws: tap-inside, tap-edge, tap-symmetric, tap-nonneg, tap-sum;
+-- Laws: tap-inside, tap-edge, tap-symmetric, tap-nonneg, tap-split, tap-sum;
 -- kernel-symmetric, kernel-nonneg, kernel-beyond, kernel-sum;
 -- convolve-cons (a stage in front: what the taps make of what the rest makes).
 use mathlib.Core.Path.{_≡_, refl, sym, _∙_, ap, ap₂}
@@ -11,7 +11,7 @@ use native.Mathlib.Omega.{arith}
 use lib.IntN.{ℤ, pos, negsuc, negℤ, natAbs, _+ℤ_, _-ℤ_, _*ℤ_, *ℤ-comm, -ℤ-+ℤ-cancel, negℤ-+ℤ, negℤ-negℤ}
 use lib.Signed.{_≤ℤ_}
 use borrow.Author.Tests.{le-leb, lt-leb, eq-eqb, ne-eqb}
-use Rattle.algebra.specs.Ring.{ac, *ℤ-idr, *ℤ-zero-r}
+use Rattle.algebra.specs.Ring.{ac, *ℤ-idr, *ℤ-zero-r, *ℤ-+ℤ}
 use Rattle.algebra.specs.Order.{nonneg-pos, nonneg-*}
 use Rattle.algebra.specs.Size.{natAbs-neg, natAbs-back}
 use Rattle.algebra.specs.Within.{sumWithin, Beyond, beyond-*, within-ext, within-none, within-const, within-*, within-swap, within-neg, within-shift, within-nonneg}
@@ -34,12 +34,22 @@ pub tap-nonneg : (s : Stage) (m : ℤ) → pos 0 ≤ℤ tap s m
 unfolding tap
 tap-nonneg s m = nonneg-pos
 
-pub tap-sum : (s : Stage) → sumWithin (suc (s .radius)) (tap s) ≡ pos (tapSum s)
-unfolding sumWithin tapSum
-tap-sum s = ap₂ _+ℤ_ (within-ext r (tap-inside s) ∙ within-const r (pos (s .inner))) (ap₂ _+ℤ_ (tap-edge s (pos (suc r)) refl) (tap-edge s (negsuc r) refl)) ∙ ap pos (omega arith)
+-- the inner taps, and the two at the edge
+pub tap-split : (s : Stage) (g : ℤ → ℤ) → sumWithin (suc (s .radius)) (λ j. tap s j *ℤ g j) ≡ pos (s .inner) *ℤ sumWithin (s .radius) g +ℤ pos (s .edge) *ℤ (g (pos (suc (s .radius))) +ℤ g (negsuc (s .radius)))
+unfolding sumWithin
+tap-split s g = ap₂ _+ℤ_
+    (within-ext r (λ j l. ap (λ z. z *ℤ g j) (tap-inside s j l)) ∙ within-* r (pos (s .inner)) g)
+    (ap₂ (λ x y. x *ℤ g (pos (suc r)) +ℤ y *ℤ g (negsuc r)) (tap-edge s (pos (suc r)) refl) (tap-edge s (negsuc r) refl) ∙ sym (*ℤ-+ℤ (pos (s .edge)) (g (pos (suc r))) (g (negsuc r))))
   where
     r : ℕ
     r = s .radius
+
+pub tap-sum : (s : Stage) → sumWithin (suc (s .radius)) (tap s) ≡ pos (tapSum s)
+unfolding tapSum
+tap-sum s =
+    within-ext _ (λ j l. sym (*ℤ-idr (tap s j))) ∙ tap-split s (λ j. pos 1)
+    ∙ ap (λ z. pos (s .inner) *ℤ z +ℤ pos (s .edge) *ℤ pos 2) (within-const (s .radius) (pos 1))
+    ∙ ap pos (omega arith)
 
 -- ---- the kernel
 neg-sub : (m j : ℤ) → negℤ m -ℤ j ≡ negℤ (m -ℤ negℤ j)

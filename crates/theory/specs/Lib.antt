@@ -1,2 +1,5 @@
 pub mod Folding
 pub mod Kernel
+pub mod Lists
+pub mod Stages
+pub mod Moment

@@ -1,0 +1,80 @@
+-- Lists made of their elements, and how large those are.
+--   Sized M f   no element of f is larger than M; past its end f reads as 0
+-- Laws: length-listOf, at-listOf, listOf-ext, listOf-at, listOf-last; at-past;
+-- sized, sized-weaken, sized-listOf, sized-++, sized-set.
+use mathlib.Core.Path.{_≡_, refl, ap, ap₂}
+use mathlib.Core.List.{List, [], _∷_, _++_}
+use Prim.Native.Nat.{ℕ, zero, suc, _≤_, _<_}
+use native.Mathlib.Decide.{ℕ-discrete, decLt}
+use native.Mathlib.Omega.{arith}
+use lib.ListN.{length, set, List·getD-eq-default}
+use lib.Seq.{getD-set-same, getD-set-other}
+use lib.IntN.{ℤ, pos}
+use Rattle.algebra.specs.Size.{Abs, abs-weaken}
+use Rattle.meaning.specs.Extension.{at}
+use Rattle.meaning.specs.Smoothing.{listOf}
+
+-- ---- elements
+pub length-listOf : (n : ℕ) (g : ℕ → ℤ) → length (listOf n g) ≡ n
+unfolding listOf
+length-listOf zero g = refl
+length-listOf (suc n) g = ap suc (length-listOf n (λ i. g (suc i)))
+
+pub at-listOf : (n : ℕ) (g : ℕ → ℤ) (i : ℕ) → i < n → at (listOf n g) i ≡ g i
+unfolding listOf
+at-listOf zero g i h = absurd (omega arith)
+at-listOf (suc n) g zero h = refl
+at-listOf (suc n) g (suc i) h = at-listOf n (λ i. g (suc i)) i (omega arith)
+
+pub listOf-ext : (n : ℕ) {g h : ℕ → ℤ} → ((i : ℕ) → i < n → g i ≡ h i) → listOf n g ≡ listOf n h
+unfolding listOf
+listOf-ext zero e = refl
+listOf-ext (suc n) e = ap₂ _∷_ (e 0 (omega arith)) (listOf-ext n (λ i l. e (suc i) (omega arith)))
+
+-- a list is that of its elements
+pub listOf-at : (n : ℕ) (f : List ℤ) → length f ≡ n → listOf n (at f) ≡ f
+unfolding listOf
+listOf-at zero [] e = refl
+listOf-at zero (x ∷ f) e = absurd (omega arith)
+listOf-at (suc n) [] e = absurd (omega arith)
+listOf-at (suc n) (x ∷ f) e = ap (λ l. x ∷ l) (listOf-at n f (omega arith))
+
+pub listOf-last : (n : ℕ) (g : ℕ → ℤ) → listOf (suc n) g ≡ listOf n g ++ (g n ∷ [])
+unfolding listOf
+listOf-last zero g = refl
+listOf-last (suc n) g = ap (λ l. g 0 ∷ l) (listOf-last n (λ i. g (suc i)))
+
+pub at-past : (f : List ℤ) (i : ℕ) → length f ≤ i → at f i ≡ pos 0
+at-past f i h = List·getD-eq-default f (pos 0) h
+
+-- ---- sizes
+pub record Sized (M : ℕ) (f : List ℤ) : Type 0 where
+  pub size : (i : ℕ) → Abs (at f i) M
+
+pub sized : {M : ℕ} (f : List ℤ) → ((i : ℕ) → i < length f → Abs (at f i) M) → Sized M f
+sized {M} f h = record { size = λ i. go i (decLt i (length f)) }
+  where
+    go : (i : ℕ) → Dec (i < length f) → Abs (at f i) M
+    go i (yes l) = h i l
+    go i (no l) = rw (at-past f i (omega arith)) (omega arith)
+
+pub sized-weaken : {M Q : ℕ} {f : List ℤ} → Sized M f → M ≤ Q → Sized Q f
+sized-weaken s l = record { size = λ i. abs-weaken (s .size i) l }
+
+pub sized-listOf : {M : ℕ} (n : ℕ) (g : ℕ → ℤ) → ((i : ℕ) → i < n → Abs (g i) M) → Sized M (listOf n g)
+sized-listOf n g h = sized (listOf n g) (λ i l. rw (at-listOf n g i (omega (arith, length-listOf n g))) (h i (omega (arith, length-listOf n g))))
+
+pub sized-++ : {M : ℕ} (f g : List ℤ) → Sized M f → Sized M g → Sized M (f ++ g)
+sized-++ {M} f g s t = record { size = go f (s .size) }
+  where
+    go : (f : List ℤ) → ((i : ℕ) → Abs (at f i) M) → (i : ℕ) → Abs (at (f ++ g) i) M
+    go [] h i = t .size i
+    go (x ∷ f) h zero = h zero
+    go (x ∷ f) h (suc i) = go f (λ j. h (suc j)) i
+
+pub sized-set : {M : ℕ} (f : List ℤ) (p : ℕ) (v : ℤ) → p < length f → Sized M f → Abs v M → Sized M (set f p v)
+sized-set {M} f p v l s h = record { size = λ i. go i (ℕ-discrete i p) }
+  where
+    go : (i : ℕ) → Dec (i ≡ p) → Abs (at (set f p v) i) M
+    go i (yes e) = rw (e, getD-set-same f p v (pos 0) l) h
+    go i (no e) = rw (getD-set-other f p i v (pos 0) e) (s .size i)
