@@ -1,12 +1,13 @@
 -- Lists of stages: one after the other, K equal ones, and in another order.
+--   Positive ss       every inner weight of ss is above 0
 --   Reordered ss ts   ts has the stages of ss, in some order
--- Laws: width-append, reach-append, divisor-append; width-same, reach-same, divisor-same (of K equal stages: document 01's numbers);
+-- Laws: positive-same, positive-append, tapSum-positive, divisor-positive, divisor-part; width-append, reach-append, divisor-append; width-same, reach-same, divisor-same (of K equal stages: document 01's numbers);
 -- convolve-none, convolve-append (stages one after the other, over any row), kernel-append (their kernel is the two kernels' convolution);
 -- width-order, reach-order, divisor-order, kernel-order.
 use mathlib.Core.Path.{_≡_, refl, sym, _∙_, ap, ap₂}
 use mathlib.Core.List.{List, [], _∷_, _++_}
-use Prim.Native.Nat.{ℕ, zero, suc, _+_, _*_, _^_, _≤_}
-use native.Mathlib.Nat.{zero-mul, suc-mul, mul-assoc, mul-comm, mul-left-comm, one-mul, pow-zero, pow-suc}
+use Prim.Native.Nat.{ℕ, zero, suc, _+_, _*_, _^_, _≤_, _<_}
+use native.Mathlib.Nat.{zero-mul, suc-mul, mul-assoc, mul-comm, mul-left-comm, one-mul, mul-pos, le-mul-of-pos-right, pow-zero, pow-suc}
 use native.Mathlib.Omega.{arith}
 use lib.ListN.{replicate}
 use lib.IntN.{ℤ, pos, natAbs, _+ℤ_, _-ℤ_, _*ℤ_, +ℤ-idr, +ℤ-assoc}
@@ -47,6 +48,33 @@ unfolding divisor
 divisor-same zero s = sym (pow-zero (tapSum s))
 divisor-same (suc K) s = rw (divisor-same K s) (mul-comm (tapSum s) (tapSum s ^ K) ∙ sym (pow-suc (tapSum s) K))
 
+-- ---- inner weights above 0
+infixr 5 _and_
+pub data Positive : List Stage → Type 0 where
+  none : Positive []
+  _and_ : {s : Stage} {ss : List Stage} → 0 < s .inner → Positive ss → Positive (s ∷ ss)
+
+pub positive-same : (K : ℕ) (s : Stage) → 0 < s .inner → Positive (replicate K s)
+positive-same zero s h = none
+positive-same (suc K) s h = h and positive-same K s h
+
+pub positive-append : {ss ts : List Stage} → Positive ss → Positive ts → Positive (ss ++ ts)
+positive-append none q = q
+positive-append (h and p) q = h and positive-append p q
+
+pub tapSum-positive : (s : Stage) → 0 < s .inner → 0 < tapSum s
+unfolding tapSum
+tapSum-positive s h = omega (arith, mul-pos {m = 2 * s .radius + 1} {n = s .inner} (omega arith) h)
+
+pub divisor-positive : {ss : List Stage} → Positive ss → 0 < divisor ss
+unfolding divisor
+divisor-positive none = omega arith
+divisor-positive {ss = s ∷ ss} (h and p) = mul-pos (tapSum-positive s h) (divisor-positive p)
+
+-- the divisor of the passes so far is no larger than that of all
+pub divisor-part : {ss : List Stage} (ts : List Stage) → Positive ss → divisor ts ≤ divisor (ss ++ ts)
+divisor-part {ss} ts p = rw (divisor-append ss ts, mul-comm (divisor ss) (divisor ts)) (le-mul-of-pos-right (divisor ts) (divisor-positive p))
+
 -- ---- one after the other
 -- no stages leave a row as it is
 pub convolve-none : (g : ℤ → ℤ) → sumWithin (width []) (λ m. kernel [] m *ℤ g m) ≡ g (pos 0)
@@ -72,28 +100,28 @@ kernel-append (s ∷ ss) ts m =
 
 -- ---- in another order
 pub data Reordered : List Stage → List Stage → Type 0 where
-  none : Reordered [] []
+  empty : Reordered [] []
   keep : (s : Stage) {ss ts : List Stage} → Reordered ss ts → Reordered (s ∷ ss) (s ∷ ts)
   swap : (s t : Stage) (ss : List Stage) → Reordered (s ∷ t ∷ ss) (t ∷ s ∷ ss)
   then : {ss ts us : List Stage} → Reordered ss ts → Reordered ts us → Reordered ss us
 
 pub width-order : {ss ts : List Stage} → Reordered ss ts → width ss ≡ width ts
 unfolding width
-width-order none = refl
+width-order empty = refl
 width-order (keep s o) = rw (width-order o)
 width-order (swap s t ss) = omega arith
 width-order (then o q) = width-order o ∙ width-order q
 
 pub reach-order : {ss ts : List Stage} → Reordered ss ts → reach ss ≡ reach ts
 unfolding reach
-reach-order none = refl
+reach-order empty = refl
 reach-order (keep s o) = rw (reach-order o)
 reach-order (swap s t ss) = omega arith
 reach-order (then o q) = reach-order o ∙ reach-order q
 
 pub divisor-order : {ss ts : List Stage} → Reordered ss ts → divisor ss ≡ divisor ts
 unfolding divisor
-divisor-order none = refl
+divisor-order empty = refl
 divisor-order (keep s o) = rw (divisor-order o)
 divisor-order (swap s t ss) = mul-left-comm (tapSum s) (tapSum t) (divisor ss)
 divisor-order (then o q) = divisor-order o ∙ divisor-order q
@@ -110,7 +138,7 @@ kernel-swap s t ss m =
 
 pub kernel-order : {ss ts : List Stage} → Reordered ss ts → (m : ℤ) → kernel ss m ≡ kernel ts m
 unfolding kernel
-kernel-order none m = refl
+kernel-order empty m = refl
 kernel-order (keep s o) m = within-ext _ (λ j l. ap (λ z. tap s j *ℤ z) (kernel-order o (m -ℤ j)))
 kernel-order (swap s t ss) m = kernel-swap s t ss m
 kernel-order (then o q) m = kernel-order o m ∙ kernel-order q m

@@ -1,0 +1,101 @@
+-- The law: passes are one convolution.
+--   repeated K g f   g (g (.. f)), K times
+-- A symmetric kernel commutes with a folding, so the extension of the results is the result at every whole n (ext-results).
+-- Then a stage in front is one pass more (results-cons), and K equal stages are K passes (results-same).
+-- Laws: length-results, at-results, length-pass; result-none, result-cons, result-append, result-order;
+-- result-fold, ext-results; results-none, results-cons, results-append, results-same, results-order.
+use mathlib.Core.Path.{_≡_, refl, sym, _∙_, ap, ap₂}
+use mathlib.Core.List.{List, [], _∷_, _++_}
+use Prim.Native.Nat.{ℕ, zero, suc, _<_}
+use native.Mathlib.Omega.{arith}
+use lib.ListN.{length, replicate}
+use lib.IntN.{ℤ, pos, negℤ, _+ℤ_, _-ℤ_, _*ℤ_, +ℤ-idr}
+use Rattle.algebra.specs.Ring.{ac}
+use Rattle.algebra.specs.Within.{sumWithin, within-ext, within-neg}
+use Rattle.meaning.specs.Extension.{at, IndexMap, ext}
+use Rattle.meaning.specs.Kernel.{Stage, tap, kernel, width}
+use Rattle.meaning.specs.Smoothing.{listOf, result, results, passAt, pass}
+use Rattle.theory.specs.Kernel.{kernel-symmetric, convolve-cons}
+use Rattle.theory.specs.Stages.{convolve-none, convolve-append, Reordered, kernel-order, width-order}
+use Rattle.theory.specs.Lists.{length-listOf, at-listOf, listOf-ext, listOf-at}
+use Rattle.theory.specs.Folding.{Folding, Follows, forward, backward}
+
+unfoldable pub repeated : ℕ → (List ℤ → List ℤ) → List ℤ → List ℤ
+repeated zero g f = f
+repeated (suc K) g f = g (repeated K g f)
+
+sub-sum : (n m j : ℤ) → n -ℤ (m +ℤ j) ≡ n -ℤ j -ℤ m
+sub-sum n m j = simp ac
+
+module _ (φ : IndexMap) where
+  -- ---- shape
+  pub length-results : (ss : List Stage) (f : List ℤ) → length (results φ ss f) ≡ length f
+  unfolding results
+  length-results ss f = length-listOf (length f) _
+
+  pub at-results : (ss : List Stage) (f : List ℤ) (n : ℕ) → n < length f → at (results φ ss f) n ≡ result φ ss f (pos n)
+  unfolding results
+  at-results ss f n h = at-listOf (length f) _ n h
+
+  pub length-pass : (s : Stage) (f : List ℤ) → length (pass φ s f) ≡ length f
+  unfolding pass
+  length-pass s f = length-listOf (length f) _
+
+  -- ---- at every whole n
+  pub result-none : (f : List ℤ) (n : ℤ) → result φ [] f n ≡ ext φ f n
+  unfolding result
+  result-none f n = convolve-none (λ m. ext φ f (n -ℤ m)) ∙ ap (ext φ f) (+ℤ-idr n)
+
+  pub result-cons : (s : Stage) (ss : List Stage) (f : List ℤ) (n : ℤ) → result φ (s ∷ ss) f n ≡ passAt s (result φ ss f) n
+  unfolding result passAt
+  result-cons s ss f n =
+      convolve-cons s ss (λ m. ext φ f (n -ℤ m))
+      ∙ within-ext _ (λ j l. ap (λ z. tap s j *ℤ z) (within-ext _ (λ m t. ap (λ z. kernel ss m *ℤ ext φ f z) (sub-sum n m j))))
+
+  pub result-append : (ss ts : List Stage) (f : List ℤ) (n : ℤ) → result φ (ss ++ ts) f n ≡ sumWithin (width ss) (λ j. kernel ss j *ℤ result φ ts f (n -ℤ j))
+  unfolding result
+  result-append ss ts f n =
+      convolve-append ss ts (λ m. ext φ f (n -ℤ m))
+      ∙ within-ext _ (λ j l. ap (λ z. kernel ss j *ℤ z) (within-ext _ (λ m t. ap (λ z. kernel ts m *ℤ ext φ f z) (sub-sum n m j))))
+
+  pub result-order : {ss ts : List Stage} → Reordered ss ts → (f : List ℤ) (n : ℤ) → result φ ss f n ≡ result φ ts f n
+  unfolding result
+  result-order {ss} o f n = ap (λ w. sumWithin w (λ m. kernel ss m *ℤ ext φ f (n -ℤ m))) (width-order o) ∙ within-ext _ (λ m l. ap (λ z. z *ℤ ext φ f (n -ℤ m)) (kernel-order o m))
+
+  pub results-order : {ss ts : List Stage} → Reordered ss ts → (f : List ℤ) → results φ ss f ≡ results φ ts f
+  unfolding results
+  results-order o f = listOf-ext (length f) (λ n l. result-order o f (pos n))
+
+  follows : (ss : List Stage) (f : List ℤ) (n : ℤ) (p : ℕ) → Follows (φ (length f)) n p → result φ ss f n ≡ result φ ss f (pos p)
+  unfolding result ext
+  follows ss f n p (forward h) = within-ext _ (λ m l. ap (λ i. kernel ss m *ℤ at f i) (h (negℤ m)))
+  follows ss f n p (backward h) =
+      within-ext _ (λ m l. ap₂ (λ k i. k *ℤ at f i) (sym (kernel-symmetric ss m)) (h (negℤ m)))
+      ∙ within-neg _ (λ m. kernel ss m *ℤ at f (φ (length f) (pos p -ℤ m)))
+
+-- ---- the extension of the results
+module _ {φ : IndexMap} (F : Folding φ) where
+  pub result-fold : (ss : List Stage) (f : List ℤ) → 0 < length f → (n : ℤ) → result φ ss f n ≡ result φ ss f (pos (φ (length f) n))
+  result-fold ss f h n = follows φ ss f n _ (F .follows h n)
+
+  pub ext-results : (ss : List Stage) (f : List ℤ) → 0 < length f → (n : ℤ) → ext φ (results φ ss f) n ≡ result φ ss f n
+  unfolding ext
+  ext-results ss f h n = rw (length-results φ ss f) (at-results φ ss f _ (F .below h n) ∙ sym (result-fold ss f h n))
+
+  -- ---- passes
+  pub results-none : (f : List ℤ) → results φ [] f ≡ f
+  unfolding results ext
+  results-none f = listOf-ext (length f) (λ n l. result-none φ f (pos n) ∙ ap (at f) (F .here l)) ∙ listOf-at (length f) f refl
+
+  pub results-cons : (s : Stage) (ss : List Stage) (f : List ℤ) → results φ (s ∷ ss) f ≡ pass φ s (results φ ss f)
+  unfolding results pass passAt
+  results-cons s ss f = rw (length-results φ ss f) (listOf-ext (length f) (λ n l. result-cons φ s ss f (pos n) ∙ within-ext _ (λ j t. ap (λ z. tap s j *ℤ z) (sym (ext-results ss f (omega arith) (pos n -ℤ j))))))
+
+  pub results-append : (ss ts : List Stage) (f : List ℤ) → results φ (ss ++ ts) f ≡ results φ ss (results φ ts f)
+  results-append [] ts f = sym (results-none (results φ ts f))
+  results-append (s ∷ ss) ts f = results-cons s (ss ++ ts) f ∙ ap (pass φ s) (results-append ss ts f) ∙ sym (results-cons s ss (results φ ts f))
+
+  pub results-same : (K : ℕ) (s : Stage) (f : List ℤ) → results φ (replicate K s) f ≡ repeated K (pass φ s) f
+  unfolding repeated
+  results-same zero s f = results-none f
+  results-same (suc K) s f = results-cons s (replicate K s) f ∙ ap (pass φ s) (results-same K s f)

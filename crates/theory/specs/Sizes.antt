@@ -1,0 +1,41 @@
+-- How large results grow: samples of size up to M give results of size up to M times the divisor, and so after every pass.
+-- Laws: result-size, results-size, part-size (after some of the passes), pass-size.
+use mathlib.Core.Path.{_≡_, refl, sym, _∙_, ap}
+use mathlib.Core.List.{List, _∷_, _++_}
+use Prim.Native.Nat.{ℕ, suc, _*_}
+use native.Mathlib.Nat.{mul-comm, mul-le-mul-left}
+use lib.ListN.{length}
+use lib.IntN.{ℤ, pos, natAbs, _-ℤ_, _*ℤ_}
+use Rattle.algebra.specs.Size.{Abs}
+use Rattle.algebra.specs.Within.{sumWithin, within-weighted}
+use Rattle.meaning.specs.Extension.{at, IndexMap, ext}
+use Rattle.meaning.specs.Kernel.{Stage, tap, kernel, width, tapSum, divisor}
+use Rattle.meaning.specs.Smoothing.{result, results, passAt, pass}
+use Rattle.theory.specs.Kernel.{tap-nonneg, tap-sum, kernel-nonneg, kernel-sum}
+use Rattle.theory.specs.Stages.{Positive, divisor-part}
+use Rattle.theory.specs.Lists.{Sized, sized-weaken, sized-listOf}
+
+pub passAt-size : (s : Stage) {M : ℕ} {e : ℤ → ℤ} → ((n : ℤ) → Abs (e n) M) → (n : ℤ) → Abs (passAt s e n) (M * tapSum s)
+unfolding passAt
+passAt-size s {M} {e} h n = rw (mul-comm M (tapSum s)) (rw (tap-sum s) at (within-weighted (suc (s .radius)) M (tap s) (λ j. e (n -ℤ j)) (λ j l. tap-nonneg s j) (λ j l. h (n -ℤ j))))
+
+module _ (φ : IndexMap) {M : ℕ} {f : List ℤ} (h : Sized M f) where
+  pub ext-size : (n : ℤ) → Abs (ext φ f n) M
+  unfolding ext
+  ext-size n = h .size (φ (length f) n)
+
+  pub pass-size : (s : Stage) → Sized (M * tapSum s) (pass φ s f)
+  unfolding pass
+  pass-size s = sized-listOf (length f) _ (λ n l. passAt-size s ext-size (pos n))
+
+  pub result-size : (ss : List Stage) (n : ℤ) → Abs (result φ ss f n) (M * divisor ss)
+  unfolding result
+  result-size ss n = rw (mul-comm M (divisor ss)) (rw (kernel-sum ss) at (within-weighted (width ss) M (kernel ss) (λ m. ext φ f (n -ℤ m)) (λ m l. kernel-nonneg ss m) (λ m l. ext-size (n -ℤ m))))
+
+  pub results-size : (ss : List Stage) → Sized (M * divisor ss) (results φ ss f)
+  unfolding results
+  results-size ss = sized-listOf (length f) _ (λ n l. result-size ss (pos n))
+
+  -- after the passes of ts, when those of ss are still to come
+  pub part-size : {ss : List Stage} (ts : List Stage) → Positive ss → Sized (M * divisor (ss ++ ts)) (results φ ts f)
+  part-size ts p = sized-weaken (results-size ts) (mul-le-mul-left M (divisor-part ts p))
