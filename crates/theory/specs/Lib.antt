@@ -5,3 +5,5 @@ pub mod Stages
 pub mod Moment
 pub mod Passes
 pub mod Sizes
+pub mod Reach
+pub mod Slide

@@ -1,0 +1,89 @@
+-- Where the kernel is: above 0 at every offset within the reach, and 0 beyond it.
+-- Laws: tapReach-width, reach-width; tap-none, tap-positive; kernel-none, kernel-positive.
+use mathlib.Core.Path.{_≡_, refl, sym, _∙_, ap}
+use mathlib.Core.List.{List, [], _∷_}
+use Prim.Native.Nat.{ℕ, zero, suc, _+_, _-_, _≤_, _<_}
+use native.Mathlib.Nat.{le-refl}
+use native.Mathlib.Decide.{ℕ-discrete, decLe}
+use native.Mathlib.Omega.{arith}
+use lib.IntN.{ℤ, pos, negsuc, natAbs, _-ℤ_, _*ℤ_}
+use lib.Signed.{_≤ℤ_, _<ℤ_}
+use borrow.Author.Tests.{lt-leb, eq-eqb, ne-eqb}
+use Rattle.algebra.specs.Difference.{sub-pos}
+use Rattle.algebra.specs.Ring.{*ℤ-zero-l, *ℤ-zero-r}
+use Rattle.algebra.specs.Order.{nonneg-*, positive-pos, positive-*}
+use Rattle.algebra.specs.Within.{sumWithin, Beyond, within-none, within-positive}
+use Rattle.meaning.specs.Kernel.{Stage, tap, kernel, width, tapReach, reach}
+use Rattle.theory.specs.Kernel.{tap-inside, tap-edge, tap-nonneg, kernel-symmetric, kernel-nonneg, far}
+use Rattle.theory.specs.Stages.{Positive, none, _and_}
+
+-- ---- one pass
+data Edge (s : Stage) : Type 0 where
+  plain : s .edge ≡ 0 → tapReach s ≡ s .radius → Edge s
+  edged : 0 < s .edge → tapReach s ≡ suc (s .radius) → Edge s
+
+edge : (s : Stage) → Edge s
+edge s = go (ℕ-discrete (s .edge) 0)
+  where
+    go : Dec (s .edge ≡ 0) → Edge s
+    go (yes e) = plain e (rw (eq-eqb _ _ e))
+    go (no e) = edged (omega arith) (rw (ne-eqb _ _ e))
+
+pub tapReach-width : (s : Stage) → tapReach s ≤ suc (s .radius)
+tapReach-width s = go (edge s)
+  where
+    go : Edge s → tapReach s ≤ suc (s .radius)
+    go (plain e i) = omega arith
+    go (edged e i) = omega arith
+
+pub tap-none : (s : Stage) → Beyond (tapReach s) (tap s)
+tap-none s m h = go (edge s) (ℕ-discrete (natAbs m) (suc (s .radius)))
+  where
+    outside : suc (s .radius) < natAbs m → tap s m ≡ pos 0
+    outside l = unfold tap in rw (lt-leb (natAbs m) (s .radius) (omega arith), ne-eqb (natAbs m) (suc (s .radius)) (omega arith))
+
+    go : Edge s → Dec (natAbs m ≡ suc (s .radius)) → tap s m ≡ pos 0
+    go (plain e i) (yes j) = tap-edge s m j ∙ ap pos e
+    go (plain e i) (no j) = outside (omega arith)
+    go (edged e i) d = outside (omega arith)
+
+pub tap-positive : (s : Stage) → 0 < s .inner → (m : ℤ) → natAbs m ≤ tapReach s → pos 0 <ℤ tap s m
+tap-positive s b m h = go (edge s) (decLe (natAbs m) (s .radius))
+  where
+    go : Edge s → Dec (natAbs m ≤ s .radius) → pos 0 <ℤ tap s m
+    go d (yes l) = rw (tap-inside s m l) (positive-pos b)
+    go (plain e i) (no l) = let no : ⊥ = omega arith in absurd no
+    go (edged e i) (no l) = rw (tap-edge s m (omega arith)) (positive-pos e)
+
+-- ---- all passes
+pub reach-width : (ss : List Stage) → reach ss ≤ width ss
+unfolding reach width
+reach-width [] = le-refl 0
+reach-width (s ∷ ss) = omega (arith, reach-width ss, tapReach-width s)
+
+pub kernel-none : (ss : List Stage) → Beyond (reach ss) (kernel ss)
+unfolding kernel reach
+kernel-none [] m h = rw (ne-eqb (natAbs m) 0 (omega arith))
+kernel-none (s ∷ ss) m h = within-none _ (λ j l. term (kernel-none ss) j (decLe (natAbs j) (tapReach s)))
+  where
+    term : Beyond (reach ss) (kernel ss) → (j : ℤ) → Dec (natAbs j ≤ tapReach s) → tap s j *ℤ kernel ss (m -ℤ j) ≡ pos 0
+    term ih j (yes l) = *ℤ-zero-r (tap s j) (ih (m -ℤ j) (far m j h l))
+    term ih j (no l) = *ℤ-zero-l (kernel ss (m -ℤ j)) (tap-none s j (omega arith))
+
+-- at x the pass in front takes what it can, the others the rest
+right : {ss : List Stage} → Positive ss → (x : ℕ) → x ≤ reach ss → pos 0 <ℤ kernel ss (pos x)
+unfolding kernel reach
+right none zero h = positive-pos (omega arith)
+right none (suc x) h = let no : ⊥ = omega arith in absurd no
+right {ss = s ∷ ss} (b and p) x h = go (right p) (decLe x (tapReach s))
+  where
+    at : (j : ℕ) → j ≤ tapReach s → j ≤ x → pos 0 <ℤ kernel ss (pos (x - j)) → pos 0 <ℤ sumWithin (suc (s .radius)) (λ j. tap s j *ℤ kernel ss (pos x -ℤ j))
+    at j l k t = within-positive _ (λ i q. nonneg-* (tap-nonneg s i) (kernel-nonneg ss (pos x -ℤ i))) (pos j) (omega (arith, tapReach-width s)) (positive-* (tap-positive s b (pos j) l) (rw (sub-pos x j k) t))
+
+    go : ((x : ℕ) → x ≤ reach ss → pos 0 <ℤ kernel ss (pos x)) → Dec (x ≤ tapReach s) → pos 0 <ℤ sumWithin (suc (s .radius)) (λ j. tap s j *ℤ kernel ss (pos x -ℤ j))
+    go ih (yes l) = at x l (le-refl x) (ih (x - x) (omega arith))
+    go ih (no l) = at (tapReach s) (le-refl _) (omega arith) (ih (x - tapReach s) (omega arith))
+
+pub kernel-positive : {ss : List Stage} → Positive ss → (m : ℤ) → natAbs m ≤ reach ss → pos 0 <ℤ kernel ss m
+kernel-positive p (pos x) l = right p x l
+kernel-positive {ss} p (negsuc x) l = rw (kernel-symmetric ss (pos (suc x))) (right p (suc x) l)
