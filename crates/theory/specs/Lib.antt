@@ -7,3 +7,5 @@ pub mod Passes
 pub mod Sizes
 pub mod Reach
 pub mod Slide
+pub mod Weights
+pub mod Local
