@@ -9,3 +9,4 @@ pub mod Reach
 pub mod Slide
 pub mod Weights
 pub mod Local
+pub mod Picture

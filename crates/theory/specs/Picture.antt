@@ -1,0 +1,172 @@
+-- Pictures: smoothing across and down, in either order, gives the double sum; and how large it grows.
+-- Laws: length-grid, cell-grid, grid-ext, cells-ext, grid-cell;
+-- across-ext, down-ext, across-across, down-down (one after another), row-across, column-down (what was done to each row is found in each row);
+-- across-none, across-cons, down-none, down-cons (a stage in front is one pass more over every row);
+-- rows-first, columns-first, either-first; across-size, down-size, picture-size.
+use mathlib.Core.Path.{_≡_, refl, sym, _∙_, ap, ap₂}
+use mathlib.Core.List.{List, [], _∷_, _++_}
+use Prim.Native.Nat.{ℕ, zero, suc, _+_, _*_, _/_, _%_, _≤_, _<_}
+use native.Mathlib.Nat.{zero-mul, suc-mul, div-add-mod', mod-lt, div-lt-iff-lt-mul, mul-assoc}
+use native.Mathlib.Omega.{arith}
+use lib.ListN.{length, length-append, List·getD-append}
+use lib.Seq.{getD-append-add, ext-getD}
+use lib.IntN.{ℤ, pos, _+ℤ_, _-ℤ_, _*ℤ_}
+use Rattle.algebra.specs.Ring.{ac, *ℤ-assoc}
+use Rattle.algebra.specs.Size.{Abs}
+use Rattle.algebra.specs.Within.{sumWithin, within-ext, within-*, within-swap}
+use Rattle.meaning.specs.Extension.{at, IndexMap, ext}
+use Rattle.meaning.specs.Kernel.{Stage, kernel, width, divisor}
+use Rattle.meaning.specs.Smoothing.{listOf, result, results, pass}
+use Rattle.meaning.specs.Picture.{cell, pixel, grid, picture, row, column, across, down}
+use Rattle.theory.specs.Folding.{Folding}
+use Rattle.theory.specs.Lists.{length-listOf, at-listOf, listOf-ext, listOf-at, Sized, sized, sized-listOf}
+use Rattle.theory.specs.Passes.{length-results, at-results, results-none, results-cons}
+use Rattle.theory.specs.Sizes.{results-size}
+
+-- ---- a picture by its cells
+pub length-grid : (W H : ℕ) (g : ℕ → ℕ → ℤ) → length (grid W H g) ≡ H * W
+unfolding grid
+length-grid W zero g = sym (zero-mul W)
+length-grid W (suc H) g = length-append (listOf W (λ x. g x 0)) (grid W H (λ x y. g x (suc y))) ∙ rw (length-listOf W (λ x. g x 0), length-grid W H (λ x y. g x (suc y))) (omega arith)
+
+pub cell-grid : (W H : ℕ) (g : ℕ → ℕ → ℤ) (x y : ℕ) → x < W → y < H → cell W (grid W H g) x y ≡ g x y
+unfolding grid
+cell-grid W zero g x y hx hy = absurd (omega arith)
+cell-grid W (suc H) g x zero hx hy =
+    let e : 0 * W + x ≡ x = omega arith in
+    rw e (List·getD-append (listOf W (λ x. g x 0)) (grid W H (λ x y. g x (suc y))) (pos 0) x (rw (length-listOf W (λ x. g x 0)) hx) ∙ at-listOf W (λ x. g x 0) x hx)
+cell-grid W (suc H) g x (suc y) hx hy =
+    let first = listOf W (λ x. g x 0) in
+    let e : suc y * W + x ≡ length first + (y * W + x) = omega (arith, length-listOf W (λ x. g x 0)) in
+    rw e (getD-append-add first (grid W H (λ x y. g x (suc y))) (y * W + x) (pos 0) ∙ cell-grid W H (λ x y. g x (suc y)) x y hx (omega arith))
+
+pub grid-ext : (W H : ℕ) {g h : ℕ → ℕ → ℤ} → ((x y : ℕ) → x < W → y < H → g x y ≡ h x y) → grid W H g ≡ grid W H h
+unfolding grid
+grid-ext W zero e = refl
+grid-ext W (suc H) e = ap₂ _++_ (listOf-ext W (λ x l. e x 0 l (omega arith))) (grid-ext W H (λ x y l m. e x (suc y) l (omega arith)))
+
+-- where index i stands
+record Place (W H i : ℕ) : Type 0 where
+  x : ℕ
+  y : ℕ
+  x< : x < W
+  y< : y < H
+  is : i ≡ y * W + x
+
+place : (W H i : ℕ) → i < H * W → Place W H i
+place zero H i h = absurd (omega arith)
+place (suc W) H i h = record { x = i % suc W; y = i / suc W; x< = mod-lt i (omega arith); y< = div-lt-iff-lt-mul {k = suc W} {x = i} {y = H} (omega arith) .1 h; is = omega (arith, div-add-mod' i (suc W)) }
+
+pub cells-ext : (W H : ℕ) (f g : List ℤ) → length f ≡ H * W → length g ≡ H * W → ((x y : ℕ) → x < W → y < H → cell W f x y ≡ cell W g x y) → f ≡ g
+cells-ext W H f g lf lg e = ext-getD (pos 0) f g (lf ∙ sym lg) (λ i l. go (place W H i (omega arith)))
+  where
+    go : {i : ℕ} → Place W H i → at f i ≡ at g i
+    go p = rw (p .is) (e (p .x) (p .y) (p .x<) (p .y<))
+
+pub grid-cell : (W H : ℕ) (f : List ℤ) → length f ≡ H * W → grid W H (cell W f) ≡ f
+grid-cell W H f e = cells-ext W H _ f (length-grid W H (cell W f)) e (cell-grid W H (cell W f))
+
+sized-grid : {M : ℕ} (W H : ℕ) (g : ℕ → ℕ → ℤ) → ((x y : ℕ) → Abs (g x y) M) → Sized M (grid W H g)
+sized-grid {M} W H g h = sized (grid W H g) (λ i l. go (place W H i (omega (arith, length-grid W H g))))
+  where
+    go : {i : ℕ} → Place W H i → Abs (at (grid W H g) i) M
+    go p = rw (p .is, cell-grid W H g (p .x) (p .y) (p .x<) (p .y<)) (h (p .x) (p .y))
+
+-- ---- rows and columns
+abbrev pub Keeps : (List ℤ → List ℤ) → Type 0
+Keeps op = (f : List ℤ) → length (op f) ≡ length f
+
+length-row : (W : ℕ) (f : List ℤ) (y : ℕ) → length (row W f y) ≡ W
+unfolding row
+length-row W f y = length-listOf W _
+
+length-column : (W H : ℕ) (f : List ℤ) (x : ℕ) → length (column W H f x) ≡ H
+unfolding column
+length-column W H f x = length-listOf H _
+
+pub across-ext : (p q : List ℤ → List ℤ) (W H : ℕ) (f : List ℤ) → ((g : List ℤ) → length g ≡ W → p g ≡ q g) → across p W H f ≡ across q W H f
+unfolding across
+across-ext p q W H f e = grid-ext W H (λ x y l m. ap (λ (g : List ℤ). at g x) (e (row W f y) (length-row W f y)))
+
+pub down-ext : (p q : List ℤ → List ℤ) (W H : ℕ) (f : List ℤ) → ((g : List ℤ) → length g ≡ H → p g ≡ q g) → down p W H f ≡ down q W H f
+unfolding down
+down-ext p q W H f e = grid-ext W H (λ x y l m. ap (λ (g : List ℤ). at g y) (e (column W H f x) (length-column W H f x)))
+
+pub row-across : (op : List ℤ → List ℤ) → Keeps op → (W H : ℕ) (f : List ℤ) (y : ℕ) → y < H → row W (across op W H f) y ≡ op (row W f y)
+unfolding row across
+row-across op k W H f y h = listOf-ext W (λ x l. cell-grid W H _ x y l h) ∙ listOf-at W (op (row W f y)) (k (row W f y) ∙ length-row W f y)
+
+pub column-down : (op : List ℤ → List ℤ) → Keeps op → (W H : ℕ) (f : List ℤ) (x : ℕ) → x < W → column W H (down op W H f) x ≡ op (column W H f x)
+unfolding column down
+column-down op k W H f x h = listOf-ext H (λ y l. cell-grid W H _ x y h l) ∙ listOf-at H (op (column W H f x)) (k (column W H f x) ∙ length-column W H f x)
+
+pub across-across : (p q : List ℤ → List ℤ) → Keeps q → (W H : ℕ) (f : List ℤ) → across p W H (across q W H f) ≡ across (λ l. p (q l)) W H f
+unfolding across
+across-across p q k W H f = grid-ext W H (λ x y l m. ap (λ (g : List ℤ). at (p g) x) (row-across q k W H f y m))
+
+pub down-down : (p q : List ℤ → List ℤ) → Keeps q → (W H : ℕ) (f : List ℤ) → down p W H (down q W H f) ≡ down (λ l. p (q l)) W H f
+unfolding down
+down-down p q k W H f = grid-ext W H (λ x y l m. ap (λ (g : List ℤ). at (p g) y) (column-down q k W H f x l))
+
+-- ---- passes over every row, and over every column
+module _ {φ : IndexMap} (F : Folding φ) where
+  pub across-cons : (s : Stage) (ss : List Stage) (W H : ℕ) (f : List ℤ) → across (results φ (s ∷ ss)) W H f ≡ across (pass φ s) W H (across (results φ ss) W H f)
+  across-cons s ss W H f = across-ext _ _ W H f (λ g e. results-cons F s ss g) ∙ sym (across-across (pass φ s) (results φ ss) (length-results φ ss) W H f)
+
+  pub down-cons : (s : Stage) (ss : List Stage) (W H : ℕ) (f : List ℤ) → down (results φ (s ∷ ss)) W H f ≡ down (pass φ s) W H (down (results φ ss) W H f)
+  down-cons s ss W H f = down-ext _ _ W H f (λ g e. results-cons F s ss g) ∙ sym (down-down (pass φ s) (results φ ss) (length-results φ ss) W H f)
+
+  pub across-none : (W H : ℕ) (f : List ℤ) → length f ≡ H * W → across (results φ []) W H f ≡ f
+  across-none W H f e = across-ext _ (λ g. g) W H f (λ g l. results-none F g) ∙ unfold across row in (grid-ext W H (λ x y l m. at-listOf W _ x l) ∙ grid-cell W H f e)
+
+  pub down-none : (W H : ℕ) (f : List ℤ) → length f ≡ H * W → down (results φ []) W H f ≡ f
+  down-none W H f e = down-ext _ (λ g. g) W H f (λ g l. results-none F g) ∙ unfold down column in (grid-ext W H (λ x y l m. at-listOf H _ y m) ∙ grid-cell W H f e)
+
+  -- a result of a line whose cells are g
+  at-line : (ss : List Stage) (n : ℕ) (g : ℕ → ℤ) (i : ℕ) → i < n → at (results φ ss (listOf n g)) i ≡ sumWithin (width ss) (λ j. kernel ss j *ℤ g (φ n (pos i -ℤ j)))
+  unfolding result ext
+  at-line ss n g i h =
+      at-results φ ss (listOf n g) i (omega (arith, length-listOf n g))
+      ∙ rw (length-listOf n g) (within-ext _ (λ j l. ap (λ z. kernel ss j *ℤ z) (at-listOf n g _ (F .below (omega arith) (pos i -ℤ j)))))
+
+-- ---- rows first, columns first
+module _ {φ ψ : IndexMap} (F : Folding φ) (G : Folding ψ) (hs vs : List Stage) (W H : ℕ) (f : List ℤ) where
+  pub rows-first : down (results ψ vs) W H (across (results φ hs) W H f) ≡ picture φ ψ hs vs W H f
+  unfolding down across row column picture pixel
+  rows-first = grid-ext W H (λ x y hx hy.
+      at-line G vs H _ y hy
+      ∙ within-ext _ (λ j l.
+      ap (λ z. kernel vs j *ℤ z) (cell-grid W H _ x (ψ H (pos y -ℤ j)) hx (G .below (omega arith) (pos y -ℤ j)) ∙ at-line F hs W _ x hx)
+      ∙ sym (within-* _ (kernel vs j) _)
+      ∙ within-ext _ (λ i k. regroup (kernel hs i) (kernel vs j) (cell W f (φ W (pos x -ℤ i)) (ψ H (pos y -ℤ j)))))
+      ∙ within-swap _ _ (λ j i. kernel hs i *ℤ kernel vs j *ℤ cell W f (φ W (pos x -ℤ i)) (ψ H (pos y -ℤ j))))
+    where
+      regroup : (a b c : ℤ) → b *ℤ (a *ℤ c) ≡ a *ℤ b *ℤ c
+      regroup a b c = simp ac
+
+  pub columns-first : across (results φ hs) W H (down (results ψ vs) W H f) ≡ picture φ ψ hs vs W H f
+  unfolding down across row column picture pixel
+  columns-first = grid-ext W H (λ x y hx hy.
+      at-line F hs W _ x hx
+      ∙ within-ext _ (λ i l.
+      ap (λ z. kernel hs i *ℤ z) (cell-grid W H _ (φ W (pos x -ℤ i)) y (F .below (omega arith) (pos x -ℤ i)) hy ∙ at-line G vs H _ y hy)
+      ∙ sym (within-* _ (kernel hs i) _)
+      ∙ within-ext _ (λ j k. sym (*ℤ-assoc (kernel hs i) (kernel vs j) (cell W f (φ W (pos x -ℤ i)) (ψ H (pos y -ℤ j)))))))
+
+  pub either-first : down (results ψ vs) W H (across (results φ hs) W H f) ≡ across (results φ hs) W H (down (results ψ vs) W H f)
+  either-first = rows-first ∙ sym columns-first
+
+-- ---- sizes
+module _ (op : List ℤ → List ℤ) {M Q : ℕ} (k : (g : List ℤ) → Sized M g → Sized Q (op g)) where
+  pub across-size : (W H : ℕ) {f : List ℤ} → Sized M f → Sized Q (across op W H f)
+  unfolding across row
+  across-size W H {f} h = sized-grid W H _ (λ x y. k _ (sized-listOf W _ (λ i l. h .size (y * W + i))) .size x)
+
+  pub down-size : (W H : ℕ) {f : List ℤ} → Sized M f → Sized Q (down op W H f)
+  unfolding down column
+  down-size W H {f} h = sized-grid W H _ (λ x y. k _ (sized-listOf H _ (λ i l. h .size (i * W + x))) .size y)
+
+pub picture-size : {φ ψ : IndexMap} → Folding φ → Folding ψ → (hs vs : List Stage) (W H : ℕ) {M : ℕ} {f : List ℤ} → Sized M f → Sized (M * (divisor hs * divisor vs)) (picture φ ψ hs vs W H f)
+picture-size {φ} {ψ} F G hs vs W H {M} {f} h =
+    rw (← rows-first F G hs vs W H f, ← mul-assoc M (divisor hs) (divisor vs))
+    (down-size (results ψ vs) (λ g s. results-size ψ s vs) W H (across-size (results φ hs) (λ g s. results-size φ s hs) W H h))
