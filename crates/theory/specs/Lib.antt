@@ -2,6 +2,7 @@ pub mod Folding
 pub mod Kernel
 pub mod Lists
 pub mod Stages
+pub mod Order
 pub mod Moment
 pub mod Passes
 pub mod Sizes

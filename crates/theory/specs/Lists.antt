@@ -1,7 +1,7 @@
 -- Lists made of their elements, and how large those are.
 --   Sized M f   no element of f is larger than M; past its end f reads as 0
 -- Laws: length-listOf, at-listOf, listOf-ext, listOf-at, listOf-last; at-past;
--- sized, sized-weaken, sized-listOf, sized-++, sized-set.
+-- sized, sized-weaken, sized-listOf, sized-set.
 use mathlib.Core.Path.{_≡_, refl, ap, ap₂}
 use mathlib.Core.List.{List, [], _∷_, _++_}
 use Prim.Native.Nat.{ℕ, zero, suc, _≤_, _<_}
@@ -63,14 +63,6 @@ sized-weaken s l = record { size = λ i. abs-weaken (s .size i) l }
 
 pub sized-listOf : {M : ℕ} (n : ℕ) (g : ℕ → ℤ) → ((i : ℕ) → i < n → Abs (g i) M) → Sized M (listOf n g)
 sized-listOf n g h = sized (listOf n g) (λ i l. rw (at-listOf n g i (omega (arith, length-listOf n g))) (h i (omega (arith, length-listOf n g))))
-
-pub sized-++ : {M : ℕ} (f g : List ℤ) → Sized M f → Sized M g → Sized M (f ++ g)
-sized-++ {M} f g s t = record { size = go f (s .size) }
-  where
-    go : (f : List ℤ) → ((i : ℕ) → Abs (at f i) M) → (i : ℕ) → Abs (at (f ++ g) i) M
-    go [] h i = t .size i
-    go (x ∷ f) h zero = h zero
-    go (x ∷ f) h (suc i) = go f (λ j. h (suc j)) i
 
 pub sized-set : {M : ℕ} (f : List ℤ) (p : ℕ) (v : ℤ) → p < length f → Sized M f → Abs v M → Sized M (set f p v)
 sized-set {M} f p v l s h = record { size = λ i. go i (ℕ-discrete i p) }

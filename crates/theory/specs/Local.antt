@@ -1,6 +1,6 @@
 -- What a sample moves, and what a result depends on: exactly what lies within reach.
 -- Laws: near-yes, near-no; weight-none, weight-positive; result-local.
-use mathlib.Core.Path.{_≡_, refl, sym, _∙_, ap}
+use mathlib.Core.Path.{_≡_, sym, _∙_, ap}
 use mathlib.Core.Bool.{true, false}
 use mathlib.Core.List.{List}
 use Prim.Native.Nat.{ℕ, _≤_, _<_}
@@ -15,7 +15,7 @@ use Rattle.algebra.specs.Order.{nonneg-pos, nonneg-*, positive-pos, positive-*}
 use Rattle.algebra.specs.Size.{natAbs-sub}
 use Rattle.algebra.specs.Within.{within-ext, within-none, within-positive}
 use Rattle.meaning.specs.Extension.{at, IndexMap, ext}
-use Rattle.meaning.specs.Kernel.{Stage, kernel, width, reach}
+use Rattle.meaning.specs.Kernel.{Stage, kernel, reach}
 use Rattle.meaning.specs.Smoothing.{result, weight, apart, near}
 use Rattle.theory.specs.Folding.{Folding, Nearness}
 use Rattle.theory.specs.Lists.{at-past}

@@ -2,7 +2,7 @@
 --   moment-append   variances add: of stages one after the other, each one's moment times the other's divisor
 --   moment-same     the variance of K equal stages is K times that of one
 --   moment-stage    that of one stage, in its radius and weights: (r(r+1)(2r+1)b + 6(r+1)²a) / 3 over the sum of its taps
--- Laws: moment-append, moment-cons, moment-same, moment-stage, moment-order, moment-nonneg; kernel-centred.
+-- Laws: moment-append, moment-cons, moment-same, moment-stage, moment-nonneg; kernel-centred.
 use mathlib.Core.Path.{_≡_, refl, sym, _∙_, ap, ap₂}
 use mathlib.Core.List.{List, [], _∷_, _++_}
 use Prim.Native.Nat.{ℕ, zero, suc, _+_, _*_}
@@ -19,7 +19,7 @@ use Rattle.algebra.specs.Solver.{ring, _≗_}
 use Rattle.algebra.specs.Within.{sumWithin, within-ext, within-none, within-+, within-*, within-neg, within-nonneg}
 use Rattle.meaning.specs.Kernel.{Stage, tap, kernel, width, tapSum, divisor, moment}
 use Rattle.theory.specs.Kernel.{tap-split, kernel-symmetric, kernel-nonneg, kernel-sum, convolve-cons}
-use Rattle.theory.specs.Stages.{convolve-none, convolve-append, Reordered, kernel-order, width-order}
+use Rattle.theory.specs.Stages.{convolve-none, convolve-append}
 
 -- ---- its first moment is 0
 pub kernel-centred : (ss : List Stage) → sumWithin (width ss) (λ m. kernel ss m *ℤ m) ≡ pos 0
@@ -97,11 +97,7 @@ moment-stage s =
     regroup : (b q a e : ℤ) → pos 3 *ℤ (b *ℤ q +ℤ a *ℤ (e +ℤ e)) ≡ b *ℤ (pos 3 *ℤ q) +ℤ pos 6 *ℤ e *ℤ a
     regroup = ring 4 (λ b q a e. con (pos 3) ⊗ (b ⊗ q ⊕ a ⊗ (e ⊕ e)) ≗ b ⊗ (con (pos 3) ⊗ q) ⊕ con (pos 6) ⊗ e ⊗ a) refl
 
--- ---- order and sign
-pub moment-order : {ss ts : List Stage} → Reordered ss ts → moment ss ≡ moment ts
-unfolding moment
-moment-order {ss} {ts} o = ap (λ w. sumWithin w (λ m. kernel ss m *ℤ (m *ℤ m))) (width-order o) ∙ within-ext _ (λ m l. ap (λ z. z *ℤ (m *ℤ m)) (kernel-order o m))
-
+-- ---- its sign
 pub moment-nonneg : (ss : List Stage) → pos 0 ≤ℤ moment ss
 unfolding moment
 moment-nonneg ss = within-nonneg _ (λ m l. nonneg-* (kernel-nonneg ss m) (nonneg-square m))

@@ -2,8 +2,8 @@
 --   repeated K g f   g (g (.. f)), K times
 -- A symmetric kernel commutes with a folding, so the extension of the results is the result at every whole n (ext-results).
 -- Then a stage in front is one pass more (results-cons), and K equal stages are K passes (results-same).
--- Laws: length-results, at-results, length-pass; result-none, result-cons, result-append, result-order;
--- result-fold, ext-results; results-none, results-cons, results-append, results-same, results-order.
+-- Laws: length-results, at-results, length-pass; result-none, result-cons, result-append;
+-- result-fold, ext-results; results-none, results-cons, results-append, results-same.
 use mathlib.Core.Path.{_≡_, refl, sym, _∙_, ap, ap₂}
 use mathlib.Core.List.{List, [], _∷_, _++_}
 use Prim.Native.Nat.{ℕ, zero, suc, _<_}
@@ -14,9 +14,9 @@ use Rattle.algebra.specs.Ring.{ac}
 use Rattle.algebra.specs.Within.{sumWithin, within-ext, within-neg}
 use Rattle.meaning.specs.Extension.{at, IndexMap, ext}
 use Rattle.meaning.specs.Kernel.{Stage, tap, kernel, width}
-use Rattle.meaning.specs.Smoothing.{listOf, result, results, passAt, pass}
+use Rattle.meaning.specs.Smoothing.{result, results, passAt, pass}
 use Rattle.theory.specs.Kernel.{kernel-symmetric, convolve-cons}
-use Rattle.theory.specs.Stages.{convolve-none, convolve-append, Reordered, kernel-order, width-order}
+use Rattle.theory.specs.Stages.{convolve-none, convolve-append}
 use Rattle.theory.specs.Lists.{length-listOf, at-listOf, listOf-ext, listOf-at}
 use Rattle.theory.specs.Folding.{Folding, Follows, forward, backward}
 
@@ -57,14 +57,6 @@ module _ (φ : IndexMap) where
   result-append ss ts f n =
       convolve-append ss ts (λ m. ext φ f (n -ℤ m))
       ∙ within-ext _ (λ j l. ap (λ z. kernel ss j *ℤ z) (within-ext _ (λ m t. ap (λ z. kernel ts m *ℤ ext φ f z) (sub-sum n m j))))
-
-  pub result-order : {ss ts : List Stage} → Reordered ss ts → (f : List ℤ) (n : ℤ) → result φ ss f n ≡ result φ ts f n
-  unfolding result
-  result-order {ss} o f n = ap (λ w. sumWithin w (λ m. kernel ss m *ℤ ext φ f (n -ℤ m))) (width-order o) ∙ within-ext _ (λ m l. ap (λ z. z *ℤ ext φ f (n -ℤ m)) (kernel-order o m))
-
-  pub results-order : {ss ts : List Stage} → Reordered ss ts → (f : List ℤ) → results φ ss f ≡ results φ ts f
-  unfolding results
-  results-order o f = listOf-ext (length f) (λ n l. result-order o f (pos n))
 
   follows : (ss : List Stage) (f : List ℤ) (n : ℤ) (p : ℕ) → Follows (φ (length f)) n p → result φ ss f n ≡ result φ ss f (pos p)
   unfolding result ext

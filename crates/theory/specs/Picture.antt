@@ -1,16 +1,17 @@
 -- Pictures: smoothing across and down, in either order, gives the double sum; and how large it grows.
+--   Keeps op   op leaves a series as long as it is
 -- Laws: length-grid, cell-grid, grid-ext, cells-ext, grid-cell;
 -- across-ext, down-ext, across-across, down-down (one after another), row-across, column-down (what was done to each row is found in each row);
 -- across-none, across-cons, down-none, down-cons (a stage in front is one pass more over every row);
 -- rows-first, columns-first, either-first; across-size, down-size, picture-size.
 use mathlib.Core.Path.{_≡_, refl, sym, _∙_, ap, ap₂}
 use mathlib.Core.List.{List, [], _∷_, _++_}
-use Prim.Native.Nat.{ℕ, zero, suc, _+_, _*_, _/_, _%_, _≤_, _<_}
-use native.Mathlib.Nat.{zero-mul, suc-mul, div-add-mod', mod-lt, div-lt-iff-lt-mul, mul-assoc}
+use Prim.Native.Nat.{ℕ, zero, suc, _+_, _*_, _/_, _%_, _<_}
+use native.Mathlib.Nat.{zero-mul, div-add-mod', mod-lt, div-lt-iff-lt-mul, mul-assoc}
 use native.Mathlib.Omega.{arith}
 use lib.ListN.{length, length-append, List·getD-append}
 use lib.Seq.{getD-append-add, ext-getD}
-use lib.IntN.{ℤ, pos, _+ℤ_, _-ℤ_, _*ℤ_}
+use lib.IntN.{ℤ, pos, _-ℤ_, _*ℤ_}
 use Rattle.algebra.specs.Ring.{ac, *ℤ-assoc}
 use Rattle.algebra.specs.Size.{Abs}
 use Rattle.algebra.specs.Within.{sumWithin, within-ext, within-*, within-swap}

@@ -1,13 +1,13 @@
 -- Where the kernel is: above 0 at every offset within the reach, and 0 beyond it.
 -- Laws: tapReach-width, reach-width; tap-none, tap-positive; kernel-none, kernel-positive.
-use mathlib.Core.Path.{_≡_, refl, sym, _∙_, ap}
+use mathlib.Core.Path.{_≡_, _∙_, ap}
 use mathlib.Core.List.{List, [], _∷_}
-use Prim.Native.Nat.{ℕ, zero, suc, _+_, _-_, _≤_, _<_}
+use Prim.Native.Nat.{ℕ, zero, suc, _-_, _≤_, _<_}
 use native.Mathlib.Nat.{le-refl}
 use native.Mathlib.Decide.{ℕ-discrete, decLe}
 use native.Mathlib.Omega.{arith}
 use lib.IntN.{ℤ, pos, negsuc, natAbs, _-ℤ_, _*ℤ_}
-use lib.Signed.{_≤ℤ_, _<ℤ_}
+use lib.Signed.{_<ℤ_}
 use borrow.Author.Tests.{lt-leb, eq-eqb, ne-eqb}
 use Rattle.algebra.specs.Difference.{sub-pos}
 use Rattle.algebra.specs.Ring.{*ℤ-zero-l, *ℤ-zero-r}

@@ -1,13 +1,12 @@
 -- How large results grow: samples of size up to M give results of size up to M times the divisor, and so after every pass.
--- Laws: result-size, results-size, part-size (after some of the passes), pass-size.
-use mathlib.Core.Path.{_≡_, refl, sym, _∙_, ap}
-use mathlib.Core.List.{List, _∷_, _++_}
+-- Laws: passAt-size, ext-size, pass-size; result-size, results-size; part-size (after some of the passes).
+use mathlib.Core.List.{List, _++_}
 use Prim.Native.Nat.{ℕ, suc, _*_}
 use native.Mathlib.Nat.{mul-comm, mul-le-mul-left}
 use lib.ListN.{length}
-use lib.IntN.{ℤ, pos, natAbs, _-ℤ_, _*ℤ_}
+use lib.IntN.{ℤ, pos, _-ℤ_}
 use Rattle.algebra.specs.Size.{Abs}
-use Rattle.algebra.specs.Within.{sumWithin, within-weighted}
+use Rattle.algebra.specs.Within.{within-weighted}
 use Rattle.meaning.specs.Extension.{at, IndexMap, ext}
 use Rattle.meaning.specs.Kernel.{Stage, tap, kernel, width, tapSum, divisor}
 use Rattle.meaning.specs.Smoothing.{result, results, passAt, pass}

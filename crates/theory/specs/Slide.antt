@@ -5,11 +5,11 @@
 -- The weighted sum runs the pass itself: the survey's equation 33 (passAt-slide).
 -- Either step stays within twice the pass's own bound, M times the sum of the taps (step-size).
 -- Laws: window-range, window-slide, passAt-window, passAt-slide; window-size, step-size.
-use mathlib.Core.Path.{_≡_, refl, sym, _∙_, ap, ap₂}
-use Prim.Native.Nat.{ℕ, suc, _+_, _*_, _≤_, _<_}
+use mathlib.Core.Path.{_≡_, refl, sym, _∙_, ap}
+use Prim.Native.Nat.{ℕ, suc, _+_, _*_, _<_}
 use native.Mathlib.Nat.{le-mul-of-pos-right}
 use native.Mathlib.Omega.{arith}
-use lib.IntN.{ℤ, pos, negsuc, predℤ, natAbs, _+ℤ_, _-ℤ_, _*ℤ_, -ℤ-one, +ℤ-negℤ-cancel}
+use lib.IntN.{ℤ, pos, predℤ, _+ℤ_, _-ℤ_, _*ℤ_, -ℤ-one, +ℤ-negℤ-cancel}
 use Rattle.algebra.specs.Difference.{rep, diff, linear}
 use Rattle.algebra.specs.Expression.{_⊕_, _⊝_, _⊗_, con}
 use Rattle.algebra.specs.Solver.{ring, _≗_}

@@ -1,19 +1,20 @@
--- Lists of stages: one after the other, K equal ones, and in another order.
---   Positive ss       every inner weight of ss is above 0
---   Reordered ss ts   ts has the stages of ss, in some order
--- Laws: positive-same, positive-append, tapSum-positive, divisor-positive, divisor-part; width-append, reach-append, divisor-append; width-same, reach-same, divisor-same (of K equal stages: document 01's numbers);
--- convolve-none, convolve-append (stages one after the other, over any row), kernel-append (their kernel is the two kernels' convolution);
--- width-order, reach-order, divisor-order, kernel-order.
-use mathlib.Core.Path.{_≡_, refl, sym, _∙_, ap, ap₂}
+-- Lists of stages: one after the other, and K equal ones.
+--   Positive ss   every inner weight of ss is above 0
+-- Laws: width-append, reach-append, divisor-append; width-same, reach-same, divisor-same (of K equal stages);
+-- divisor-plan, reach-edged, reach-plain (document 01's numbers of a plan);
+-- positive-same, positive-append, tapSum-positive, divisor-positive, divisor-part;
+-- convolve-none, convolve-append (stages one after the other, over any row), kernel-append (their kernel is the two kernels' convolution).
+use mathlib.Core.Path.{_≡_, sym, _∙_, ap}
 use mathlib.Core.List.{List, [], _∷_, _++_}
 use Prim.Native.Nat.{ℕ, zero, suc, _+_, _*_, _^_, _≤_, _<_}
-use native.Mathlib.Nat.{zero-mul, suc-mul, mul-assoc, mul-comm, mul-left-comm, one-mul, mul-pos, le-mul-of-pos-right, pow-zero, pow-suc}
+use native.Mathlib.Nat.{zero-mul, suc-mul, mul-assoc, mul-comm, one-mul, mul-pos, le-mul-of-pos-right, pow-zero, pow-suc}
 use native.Mathlib.Omega.{arith}
 use lib.ListN.{replicate}
-use lib.IntN.{ℤ, pos, natAbs, _+ℤ_, _-ℤ_, _*ℤ_, +ℤ-idr, +ℤ-assoc}
-use Rattle.algebra.specs.Ring.{ac, *ℤ-idl, *ℤ-left-comm}
-use Rattle.algebra.specs.Within.{sumWithin, within-ext, within-*, within-swap}
-use Rattle.meaning.specs.Kernel.{Stage, tap, kernel, width, tapReach, reach, tapSum, divisor}
+use borrow.Author.Tests.{ne-eqb}
+use lib.IntN.{ℤ, pos, _+ℤ_, _-ℤ_, _*ℤ_, +ℤ-idr, +ℤ-assoc}
+use Rattle.algebra.specs.Ring.{ac, *ℤ-idl}
+use Rattle.algebra.specs.Within.{sumWithin, within-ext}
+use Rattle.meaning.specs.Kernel.{Stage, plan, tap, kernel, width, tapReach, reach, tapSum, divisor}
 use Rattle.theory.specs.Kernel.{convolve-cons}
 
 -- ---- numbers of stages one after the other
@@ -47,6 +48,16 @@ pub divisor-same : (K : ℕ) (s : Stage) → divisor (replicate K s) ≡ tapSum 
 unfolding divisor
 divisor-same zero s = sym (pow-zero (tapSum s))
 divisor-same (suc K) s = rw (divisor-same K s) (mul-comm (tapSum s) (tapSum s ^ K) ∙ sym (pow-suc (tapSum s) K))
+
+pub divisor-plan : (r b a K : ℕ) → divisor (plan r b a K) ≡ ((2 * r + 1) * b + 2 * a) ^ K
+unfolding tapSum
+divisor-plan r b a K = divisor-same K (record { radius = r; inner = b; edge = a })
+
+pub reach-edged : (r b a K : ℕ) → 0 < a → reach (plan r b a K) ≡ K * (r + 1)
+reach-edged r b a K h = reach-same K _ ∙ rw (ne-eqb a 0 (omega arith)) (omega arith)
+
+pub reach-plain : (r b K : ℕ) → reach (plan r b 0 K) ≡ K * r
+reach-plain r b K = reach-same K _
 
 -- ---- inner weights above 0
 infixr 5 _and_
@@ -97,48 +108,3 @@ kernel-append [] ts m = ap (kernel ts) (sym (+ℤ-idr m)) ∙ sym (convolve-none
 kernel-append (s ∷ ss) ts m =
     within-ext _ (λ j l. ap (λ z. tap s j *ℤ z) (kernel-append ss ts (m -ℤ j) ∙ within-ext _ (λ i k. ap (λ z. kernel ss i *ℤ kernel ts z) (sub-sub m i j))))
     ∙ sym (convolve-cons s ss (λ i. kernel ts (m -ℤ i)))
-
--- ---- in another order
-pub data Reordered : List Stage → List Stage → Type 0 where
-  empty : Reordered [] []
-  keep : (s : Stage) {ss ts : List Stage} → Reordered ss ts → Reordered (s ∷ ss) (s ∷ ts)
-  swap : (s t : Stage) (ss : List Stage) → Reordered (s ∷ t ∷ ss) (t ∷ s ∷ ss)
-  then : {ss ts us : List Stage} → Reordered ss ts → Reordered ts us → Reordered ss us
-
-pub width-order : {ss ts : List Stage} → Reordered ss ts → width ss ≡ width ts
-unfolding width
-width-order empty = refl
-width-order (keep s o) = rw (width-order o)
-width-order (swap s t ss) = omega arith
-width-order (then o q) = width-order o ∙ width-order q
-
-pub reach-order : {ss ts : List Stage} → Reordered ss ts → reach ss ≡ reach ts
-unfolding reach
-reach-order empty = refl
-reach-order (keep s o) = rw (reach-order o)
-reach-order (swap s t ss) = omega arith
-reach-order (then o q) = reach-order o ∙ reach-order q
-
-pub divisor-order : {ss ts : List Stage} → Reordered ss ts → divisor ss ≡ divisor ts
-unfolding divisor
-divisor-order empty = refl
-divisor-order (keep s o) = rw (divisor-order o)
-divisor-order (swap s t ss) = mul-left-comm (tapSum s) (tapSum t) (divisor ss)
-divisor-order (then o q) = divisor-order o ∙ divisor-order q
-
-kernel-swap : (s t : Stage) (ss : List Stage) (m : ℤ) → kernel (s ∷ t ∷ ss) m ≡ kernel (t ∷ s ∷ ss) m
-unfolding kernel
-kernel-swap s t ss m =
-    within-ext _ (λ i l. sym (within-* _ (tap s i) _))
-    ∙ within-swap _ _ (λ i j. tap s i *ℤ (tap t j *ℤ kernel ss (m -ℤ i -ℤ j)))
-    ∙ within-ext _ (λ j l. within-ext _ (λ i k. *ℤ-left-comm (tap s i) (tap t j) _ ∙ ap (λ z. tap t j *ℤ (tap s i *ℤ kernel ss z)) (sub-comm m i j)) ∙ within-* _ (tap t j) _)
-  where
-    sub-comm : (m i j : ℤ) → m -ℤ i -ℤ j ≡ m -ℤ j -ℤ i
-    sub-comm m i j = simp ac
-
-pub kernel-order : {ss ts : List Stage} → Reordered ss ts → (m : ℤ) → kernel ss m ≡ kernel ts m
-unfolding kernel
-kernel-order empty m = refl
-kernel-order (keep s o) m = within-ext _ (λ j l. ap (λ z. tap s j *ℤ z) (kernel-order o (m -ℤ j)))
-kernel-order (swap s t ss) m = kernel-swap s t ss m
-kernel-order (then o q) m = kernel-order o m ∙ kernel-order q m

@@ -4,32 +4,29 @@
 -- weight-nonneg, weight-sum.
 use mathlib.Core.Path.{_≡_, refl, sym, _∙_, ap, ap₂}
 use mathlib.Core.Logic.{_≢_}
-use mathlib.Core.Bool.{true, false, cond}
+use mathlib.Core.Bool.{cond}
 use mathlib.Core.List.{List}
 use Prim.Native.Nat.{ℕ, _≤_, _<_}
-use native.Mathlib.Decide.{ℕ-discrete, decLt, decLe}
+use native.Mathlib.Decide.{ℕ-discrete, decLt}
 use native.Mathlib.Omega.{arith}
 use lib.Dec.{eqb}
 use lib.ListN.{length, set, length-set}
 use lib.Seq.{getD-set-same, getD-set-other}
-use lib.IntN.{ℤ, pos, natAbs, _+ℤ_, _-ℤ_, _*ℤ_, *ℤ-comm, *ℤ-zero, +ℤ-idr}
-use lib.Signed.{_≤ℤ_, _<ℤ_}
-use borrow.Author.Tests.{eq-eqb, ne-eqb, le-leb, lt-leb}
-use Rattle.algebra.specs.Ring.{ac, sub-back, *ℤ-idl, *ℤ-idr, *ℤ-zero-l, *ℤ-zero-r}
-use Rattle.algebra.specs.Order.{nonneg-pos, nonneg-*, positive-pos, positive-*}
+use lib.IntN.{ℤ, pos, _+ℤ_, _-ℤ_, _*ℤ_, *ℤ-comm, *ℤ-zero, +ℤ-idr}
+use lib.Signed.{_≤ℤ_}
+use borrow.Author.Tests.{eq-eqb, ne-eqb}
+use Rattle.algebra.specs.Ring.{ac, *ℤ-idl, *ℤ-idr, *ℤ-zero-l}
+use Rattle.algebra.specs.Order.{nonneg-pos, nonneg-*}
 use Rattle.algebra.specs.Expression.{_⊕_, _⊝_, _⊗_, con}
 use Rattle.algebra.specs.Solver.{ring, _≗_}
-use Rattle.algebra.specs.Size.{natAbs-sub}
 use Rattle.algebra.specs.Sum.{sum, sum-ext, sum-*, sum-only}
-use Rattle.algebra.specs.Within.{sumWithin, within-ext, within-none, within-+, within-*, within-sum, within-nonneg, within-positive}
+use Rattle.algebra.specs.Within.{within-ext, within-+, within-*, within-sum, within-nonneg}
 use Rattle.meaning.specs.Extension.{at, IndexMap, ext}
-use Rattle.meaning.specs.Kernel.{Stage, kernel, width, reach, divisor}
-use Rattle.meaning.specs.Smoothing.{result, results, weight, apart, near}
-use Rattle.theory.specs.Folding.{Folding, Nearness}
-use Rattle.theory.specs.Lists.{at-past, listOf-ext}
+use Rattle.meaning.specs.Kernel.{Stage, kernel, divisor}
+use Rattle.meaning.specs.Smoothing.{result, weight}
+use Rattle.theory.specs.Folding.{Folding}
+use Rattle.theory.specs.Lists.{at-past}
 use Rattle.theory.specs.Kernel.{kernel-nonneg, kernel-sum}
-use Rattle.theory.specs.Stages.{Positive}
-use Rattle.theory.specs.Reach.{reach-width, kernel-none, kernel-positive}
 
 abbrev pub hit : ℕ → ℕ → ℤ
 hit i p = pos (cond (eqb i p) 1 0)
