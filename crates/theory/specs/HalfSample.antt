@@ -1,7 +1,8 @@
 -- The half-sample symmetric fold, document 01's extension, is a Folding and has Nearness.
 --   half-sample        the Folding
 --   half-sample-near   the Nearness
--- Laws: emod-below, emod-small, emod-period, emod-shift (z and its remainder go on alike), emod-mirror; reflect-low, reflect-high;
+-- Laws: emod-below, emod-small, emod-period, emod-shift (z and its remainder go on alike), emod-mirror;
+-- reflect-low, reflect-high, reflect-min (both, for omega);
 -- fold-at (a place by its period), fold-period, fold-mirror (-1 - z reads as z does), fold-negsuc (the same of pos n).
 use mathlib.Core.Path.{_≡_, sym, _∙_, ap}
 use Prim.Native.Nat.{ℕ, suc, _+_, _*_, _-_, _/_, _≤_, _<_, min}
@@ -64,8 +65,7 @@ pub reflect-high : {N m : ℕ} → N ≤ m → reflect N m ≡ 2 * N - 1 - m
 unfolding reflect
 reflect-high h = rw (le-ltb _ _ h)
 
--- for omega
-reflect-min : (N m : ℕ) → reflect N m ≡ min m (2 * N - suc m)
+pub reflect-min : (N m : ℕ) → reflect N m ≡ min m (2 * N - suc m)
 reflect-min N m = go (decLt m N)
   where
     go : Dec (m < N) → reflect N m ≡ min m (2 * N - suc m)

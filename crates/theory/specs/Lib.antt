@@ -1,3 +1,4 @@
 pub mod Folding
 pub mod Kernel
 pub mod HalfSample
+pub mod Images
