@@ -1,13 +1,32 @@
+-- Laws of the definitions in `meaning`, in the order they build on each other. Each file's head names its laws; their statements need no definition opened.
+--   Folding      what an index map must be for the laws
+--   HalfSample   the map of document 01 is one
+--   Lists        lists by their elements, and how large those are
+--   Kernel       symmetric, never negative, its sum; a stage in front
+--   Stages       one after the other, K equal ones
+--   Reach        where the kernel is above 0
+--   Order        the order of stages does not matter
+--   Moment       variances add
+--   Passes       the law: passes are one convolution
+--   Sizes        M times the divisor, after every pass
+--   Slide        a pass by running sums, and how large they grow
+--   Weights      results are linear in the samples
+--   Local        what lies within reach, and nothing else
+--   Images       a weight as strided sums of taps
+--   Picture      rows first or columns first
+-- A law over an index map φ takes `F : Folding φ`, and where it speaks of reach `C : Nearness φ`: for document 01, half-sample and half-sample-near.
 pub mod Folding
-pub mod Kernel
+pub mod HalfSample
 pub mod Lists
+pub mod Kernel
 pub mod Stages
+pub mod Reach
 pub mod Order
 pub mod Moment
 pub mod Passes
 pub mod Sizes
-pub mod Reach
 pub mod Slide
 pub mod Weights
 pub mod Local
+pub mod Images
 pub mod Picture
