@@ -2,7 +2,7 @@
 --   sum n f      f 0 + .. + f (n − 1); 0 where n is 0
 --   sumZ s n f   f s + f (s + 1) + .. + f (s + n − 1), from a whole number s on; 0 where n is 0
 -- Laws: sum-ext, sum-none, sum-const, sum-+, sum-*, sum-neg, sum-swap;
--- sum-first, sum-split, sum-blocks, sum-shift, sum-rev, sum-telescope; sum-wide, sum-same, sum-only;
+-- sum-first, sum-split, sum-blocks, sum-shift, sum-next, sum-rev, sum-telescope; sum-wide, sum-same, sum-only;
 -- sum-abs, sum-nonneg, sum-positive; sumZ-shift, sumZ-split, sumZ-rev.
 use mathlib.Core.Path.{_≡_, refl, sym, _∙_, ap, ap₂}
 use mathlib.Core.Logic.{_≢_}
@@ -80,6 +80,11 @@ sum-blocks (suc k) p f = rw (suc-mul k p, sum-split (k * p) p f, sum-blocks k p 
 pub sum-shift : (n : ℕ) (f : ℕ → ℤ) → sum n (λ i. f (suc i)) +ℤ f 0 ≡ sum n f +ℤ f n
 unfolding sum
 sum-shift n f = +ℤ-comm (sum n (λ i. f (suc i))) (f 0) ∙ sym (sum-first n f)
+
+-- where the last term is 0, all may move on by one
+pub sum-next : (n : ℕ) (f : ℕ → ℤ) → f n ≡ pos 0 → sum n f ≡ f 0 +ℤ sum n (λ i. f (suc i))
+unfolding sum
+sum-next n f e = sym (ap (λ z. sum n f +ℤ z) e ∙ +ℤ-idr (sum n f)) ∙ sum-first n f
 
 pub sum-rev : (n : ℕ) (f : ℕ → ℤ) → sum n (λ i. f (n - suc i)) ≡ sum n f
 unfolding sum

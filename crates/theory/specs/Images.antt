@@ -4,24 +4,22 @@
 -- weight-images (four strided sums: the images of p lie so far from n, on either side, and every 2N on).
 use mathlib.Core.Path.{_≡_, sym, _∙_, ap, ap₂}
 use mathlib.Core.Logic.{_≢_}
-use mathlib.Core.Bool.{cond}
 use mathlib.Core.List.{List}
 use Prim.Native.Nat.{ℕ, suc, _+_, _*_, _-_, _≤_, _<_}
 use native.Mathlib.Nat.{mul-le-mul-left}
 use native.Mathlib.Omega.{arith}
-use lib.Dec.{eqb}
 use lib.IntN.{ℤ, pos, negsuc, negℤ, natAbs, _+ℤ_, _-ℤ_, _*ℤ_, +ℤ-idr, +ℤ-assoc}
-use borrow.Author.Tests.{eq-eqb, ne-eqb}
 use Rattle.algebra.specs.Difference.{minus, rep, diff, linear}
 use Rattle.algebra.specs.Ring.{ac, sub-back, *ℤ-idr, *ℤ-zero-l, *ℤ-zero-r}
 use Rattle.algebra.specs.Order.{of+, of-neg}
 use Rattle.algebra.specs.Size.{of-abs, natAbs-neg, natAbs-sub}
-use Rattle.algebra.specs.Sum.{sum, sum-ext, sum-none, sum-+, sum-first, sum-split, sum-blocks, sum-only}
+use Rattle.algebra.specs.Sum.{sum, sum-ext, sum-none, sum-+, sum-next, sum-split, sum-blocks, sum-only}
 use Rattle.algebra.specs.Within.{sumWithin, beyond-*, within-ext, within-halves, within-neg, within-shift}
 use Rattle.meaning.specs.Extension.{reflect, fold}
 use Rattle.meaning.specs.Kernel.{Stage, kernel, width}
 use Rattle.meaning.specs.Smoothing.{weight, apart}
 use Rattle.theory.specs.Kernel.{kernel-symmetric, kernel-beyond}
+use Rattle.theory.specs.Weights.{hit, hit-same, hit-other}
 use Rattle.theory.specs.HalfSample.{reflect-min, fold-at, fold-negsuc}
 
 unfoldable pub strided : List Stage → ℕ → ℕ → ℤ
@@ -32,22 +30,13 @@ unfolding strided
 strided-beyond ss N d h = sum-none _ (λ i l. kernel-beyond ss _ (omega arith))
 
 -- ---- sums
--- the last term is 0, so they may all move on by one
-sum-next : (n : ℕ) (f : ℕ → ℤ) → f n ≡ pos 0 → sum n f ≡ f 0 +ℤ sum n (λ i. f (suc i))
-unfolding sum
-sum-next n f e = sym (ap (λ z. sum n f +ℤ z) e ∙ +ℤ-idr (sum n f)) ∙ sum-first n f
-
 -- w + 1 periods are a period longer than w
 enough : (w N : ℕ) → 0 < N → w + 2 * N ≤ suc w * (2 * N)
 enough w N h = omega (arith, mul-le-mul-left w h)
 
 -- ---- over whole periods: in each, p and its mirror read p
--- 1 where i is p, as in `weight`
-abbrev hit : ℕ → ℕ → ℤ
-hit i p = pos (cond (eqb i p) 1 0)
-
 sum-hit : (f : ℕ → ℕ) (g : ℕ → ℤ) (p n q : ℕ) → q < n → f q ≡ p → ((t : ℕ) → t < n → t ≢ q → f t ≢ p) → sum n (λ t. g t *ℤ hit (f t) p) ≡ g q
-sum-hit f g p n q l e h = sum-only n q _ l (λ t k d. *ℤ-zero-r (g t) (rw (ne-eqb (f t) p (h t k d)))) ∙ rw (eq-eqb (f q) p e) (*ℤ-idr (g q))
+sum-hit f g p n q l e h = sum-only n q _ l (λ t k d. *ℤ-zero-r (g t) (hit-other (h t k d))) ∙ rw (e, hit-same p) (*ℤ-idr (g q))
 
 module _ (N p : ℕ) (h : p < N) where
   period : (g : ℕ → ℤ) → sum (2 * N) (λ t. g t *ℤ hit (reflect N t) p) ≡ g p +ℤ g (2 * N - suc p)

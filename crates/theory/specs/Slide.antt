@@ -3,11 +3,12 @@
 --   Step s e B     no number that a step of either running sum goes through is larger than B
 -- The plain sum runs the window and weighs it where it is written (window-slide, passAt-window).
 -- The weighted sum runs the pass itself: the survey's equation 33 (passAt-slide).
--- Either step stays within twice the pass's own bound, M times the sum of the taps (step-size).
--- Laws: window-range, window-slide, passAt-window, passAt-slide; window-size, step-size.
+-- Either step stays within twice the bound: M times the sum of the taps for one pass (step-size), M times the divisor for all (step-part).
+-- Laws: window-range, window-slide, passAt-window, passAt-slide; window-size, step-size, step-part.
 use mathlib.Core.Path.{_≡_, refl, sym, _∙_, ap}
-use Prim.Native.Nat.{ℕ, suc, _+_, _*_, _<_}
-use native.Mathlib.Nat.{le-mul-of-pos-right}
+use mathlib.Core.List.{List, _∷_, _++_}
+use Prim.Native.Nat.{ℕ, suc, _+_, _*_, _≤_, _<_}
+use native.Mathlib.Nat.{le-mul-of-pos-right, mul-le-mul-left}
 use native.Mathlib.Omega.{arith}
 use lib.IntN.{ℤ, pos, predℤ, _+ℤ_, _-ℤ_, _*ℤ_, -ℤ-one, +ℤ-negℤ-cancel}
 use Rattle.algebra.specs.Difference.{rep, diff, linear}
@@ -16,10 +17,13 @@ use Rattle.algebra.specs.Solver.{ring, _≗_}
 use Rattle.algebra.specs.Size.{Abs, abs-weaken, abs-self, abs-+, abs--, abs-*}
 use Rattle.algebra.specs.Sum.{sumZ}
 use Rattle.algebra.specs.Within.{sumWithin, within-ext, within-step, within-interval, within-abs}
-use Rattle.meaning.specs.Kernel.{Stage, tapSum}
-use Rattle.meaning.specs.Smoothing.{passAt}
+use Rattle.meaning.specs.Extension.{IndexMap, ext}
+use Rattle.meaning.specs.Kernel.{Stage, tapSum, divisor}
+use Rattle.meaning.specs.Smoothing.{results, passAt}
 use Rattle.theory.specs.Kernel.{tap-split}
-use Rattle.theory.specs.Sizes.{passAt-size}
+use Rattle.theory.specs.Stages.{Positive, divisor-part}
+use Rattle.theory.specs.Lists.{Sized}
+use Rattle.theory.specs.Sizes.{passAt-size, ext-size, results-size}
 
 unfoldable pub window : (ℤ → ℤ) → ℕ → ℤ → ℤ
 window e r n = sumWithin r (λ j. e (n -ℤ j))
@@ -80,9 +84,9 @@ module _ (s : Stage) {M : ℕ} {e : ℤ → ℤ} (h : (n : ℤ) → Abs (e n) M)
   unfolding window
   window-size n = within-abs (s .radius) M (λ j l. h (n -ℤ j))
 
-  pub step-size : 0 < s .inner → Step s e (2 * (M * tapSum s))
+  pub step-size : 0 < s .inner → {B : ℕ} → 2 * (M * tapSum s) ≤ B → Step s e B
   unfolding tapSum
-  step-size b =
+  step-size b l =
       let one = le-mul-of-pos-right M b in
       let more = le-mul-of-pos-right (s .radius * M) b in
       record {
@@ -96,3 +100,8 @@ module _ (s : Stage) {M : ℕ} {e : ℤ → ℤ} (h : (n : ℤ) → Abs (e n) M)
         inside = λ x y. abs-weaken (abs-* (abs-- (abs-self (pos (s .inner))) (abs-self (pos (s .edge)))) (abs-- (h x) (h y))) (omega arith);
         between = λ n x y. abs-weaken (abs-+ (passAt-size s h n) (abs-* (abs-self (pos (s .edge))) (abs-- (h x) (h y)))) (omega arith);
       }
+
+-- the pass of s after those of ts, with those of ss to come
+pub step-part : (φ : IndexMap) {M : ℕ} {f : List ℤ} → Sized M f → {ss : List Stage} → Positive ss → (s : Stage) → 0 < s .inner → (ts : List Stage) → Step s (ext φ (results φ ts f)) (2 * (M * divisor (ss ++ (s ∷ ts))))
+unfolding divisor
+step-part φ {M} h p s b ts = step-size s (ext-size φ (results-size φ h ts)) b (omega (arith, mul-le-mul-left M (divisor-part (s ∷ ts) p)))
