@@ -1,7 +1,7 @@
 -- The kernel of a list of stages.
 --   far m j   what is farther out than w + R is, moved by j of at most R, farther out than w
 -- Laws: tap-inside, tap-edge, tap-symmetric, tap-nonneg, tap-split, tap-sum;
--- kernel-symmetric, kernel-nonneg, kernel-beyond, kernel-sum;
+-- kernel-none, kernel-cons (a stage more is a pass over the kernel); kernel-symmetric, kernel-nonneg, kernel-beyond, kernel-sum;
 -- convolve-cons (a stage in front: what the taps make of what the rest makes).
 use mathlib.Core.Path.{_≡_, refl, sym, _∙_, ap, ap₂}
 use mathlib.Core.List.{List, [], _∷_}
@@ -15,6 +15,7 @@ use Rattle.algebra.specs.Order.{nonneg-pos, nonneg-*}
 use Rattle.algebra.specs.Size.{natAbs-neg, natAbs-back}
 use Rattle.algebra.specs.Within.{sumWithin, Beyond, beyond-*, within-ext, within-none, within-const, within-*, within-swap, within-neg, within-shift, within-nonneg}
 use Rattle.meaning.specs.Kernel.{Stage, tap, kernel, width, tapSum, divisor}
+use Rattle.meaning.specs.Smoothing.{passAt}
 
 -- ---- one pass
 pub tap-inside : (s : Stage) (m : ℤ) → natAbs m ≤ s .radius → tap s m ≡ pos (s .inner)
@@ -51,6 +52,14 @@ tap-sum s =
     ∙ ap pos (omega arith)
 
 -- ---- the kernel
+pub kernel-none : kernel [] (pos 0) ≡ pos 1
+unfolding kernel
+kernel-none = refl
+
+pub kernel-cons : (s : Stage) (ss : List Stage) (m : ℤ) → kernel (s ∷ ss) m ≡ passAt s (kernel ss) m
+unfolding kernel passAt
+kernel-cons s ss m = refl
+
 neg-sub : (m j : ℤ) → negℤ m -ℤ j ≡ negℤ (m -ℤ negℤ j)
 neg-sub m j = simp (negℤ-+ℤ, negℤ-negℤ)
 

@@ -1,5 +1,5 @@
 -- What a sample moves, and what a result depends on: exactly what lies within reach.
--- Laws: near-yes, near-no; weight-none, weight-positive; result-local.
+-- Laws: near-yes, near-no; weight-outside, weight-positive; result-local.
 use mathlib.Core.Path.{_≡_, sym, _∙_, ap}
 use mathlib.Core.Bool.{true, false}
 use mathlib.Core.List.{List}
@@ -21,7 +21,7 @@ use Rattle.theory.specs.Folding.{Folding, Nearness}
 use Rattle.theory.specs.Lists.{at-past}
 use Rattle.theory.specs.Kernel.{kernel-nonneg}
 use Rattle.theory.specs.Stages.{Positive}
-use Rattle.theory.specs.Reach.{reach-width, kernel-none, kernel-positive}
+use Rattle.theory.specs.Reach.{reach-width, kernel-outside, kernel-positive}
 use Rattle.theory.specs.Weights.{hit, hit-same, hit-other}
 
 pub near-yes : (ss : List Stage) (n p : ℕ) → apart n p ≤ reach ss → near ss n p ≡ true
@@ -37,12 +37,12 @@ module _ {φ : IndexMap} (C : Nearness φ) (ss : List Stage) where
   read : {N n : ℕ} → n < N → (m : ℤ) → apart n (φ N (pos n -ℤ m)) ≤ natAbs m
   read {n} h m = rw (sub-back (pos n) m) at (C .nearest h (pos n -ℤ m))
 
-  pub weight-none : {N n : ℕ} → n < N → (p : ℕ) → reach ss < apart n p → weight φ ss N (pos n) p ≡ pos 0
+  pub weight-outside : {N n : ℕ} → n < N → (p : ℕ) → reach ss < apart n p → weight φ ss N (pos n) p ≡ pos 0
   unfolding weight
-  weight-none {N} {n} h p far = within-none _ (λ m l. go m (ℕ-discrete (φ N (pos n -ℤ m)) p) (read h m))
+  weight-outside {N} {n} h p far = within-none _ (λ m l. go m (ℕ-discrete (φ N (pos n -ℤ m)) p) (read h m))
     where
       go : (m : ℤ) → Dec (φ N (pos n -ℤ m) ≡ p) → apart n (φ N (pos n -ℤ m)) ≤ natAbs m → kernel ss m *ℤ hit (φ N (pos n -ℤ m)) p ≡ pos 0
-      go m (yes e) l = *ℤ-zero-l (hit (φ N (pos n -ℤ m)) p) (kernel-none ss m (omega arith))
+      go m (yes e) l = *ℤ-zero-l (hit (φ N (pos n -ℤ m)) p) (kernel-outside ss m (omega arith))
       go m (no e) l = *ℤ-zero-r (kernel ss m) (hit-other e)
 
   pub result-local : (f g : List ℤ) → length f ≡ length g → {n : ℕ} → n < length f → ((p : ℕ) → p < length f → apart n p ≤ reach ss → at f p ≡ at g p) → result φ ss f (pos n) ≡ result φ ss g (pos n)
@@ -52,7 +52,7 @@ module _ {φ : IndexMap} (C : Nearness φ) (ss : List Stage) where
       go : (m : ℤ) (p : ℕ) → apart n p ≤ natAbs m → Dec (natAbs m ≤ reach ss) → Dec (p < length f) → kernel ss m *ℤ at f p ≡ kernel ss m *ℤ at g p
       go m p l (yes q) (yes t) = ap (λ z. kernel ss m *ℤ z) (k p t (omega arith))
       go m p l (yes q) (no t) = ap (λ z. kernel ss m *ℤ z) (at-past f p (omega arith) ∙ sym (at-past g p (omega arith)))
-      go m p l (no q) t = *ℤ-zero-l (at f p) (kernel-none ss m (omega arith)) ∙ sym (*ℤ-zero-l (at g p) (kernel-none ss m (omega arith)))
+      go m p l (no q) t = *ℤ-zero-l (at f p) (kernel-outside ss m (omega arith)) ∙ sym (*ℤ-zero-l (at g p) (kernel-outside ss m (omega arith)))
 
 -- p itself stands at offset n - p
 pub weight-positive : {φ : IndexMap} → Folding φ → {ss : List Stage} → Positive ss → {N p : ℕ} → p < N → (n : ℕ) → apart n p ≤ reach ss → pos 0 <ℤ weight φ ss N (pos n) p

@@ -1,5 +1,5 @@
 -- Where the kernel is: above 0 at every offset within the reach, and 0 beyond it.
--- Laws: tapReach-width, reach-width; tap-none, tap-positive; kernel-none, kernel-positive.
+-- Laws: tapReach-width, reach-width; tap-outside, tap-positive; kernel-outside, kernel-positive.
 use mathlib.Core.Path.{_≡_, _∙_, ap}
 use mathlib.Core.List.{List, [], _∷_}
 use Prim.Native.Nat.{ℕ, zero, suc, _-_, _≤_, _<_}
@@ -36,8 +36,8 @@ tapReach-width s = go (edge s)
     go (plain e i) = omega arith
     go (edged e i) = omega arith
 
-pub tap-none : (s : Stage) → Beyond (tapReach s) (tap s)
-tap-none s m h = go (edge s) (ℕ-discrete (natAbs m) (suc (s .radius)))
+pub tap-outside : (s : Stage) → Beyond (tapReach s) (tap s)
+tap-outside s m h = go (edge s) (ℕ-discrete (natAbs m) (suc (s .radius)))
   where
     outside : suc (s .radius) < natAbs m → tap s m ≡ pos 0
     outside l = unfold tap in rw (lt-leb (natAbs m) (s .radius) (omega arith), ne-eqb (natAbs m) (suc (s .radius)) (omega arith))
@@ -61,14 +61,14 @@ unfolding reach width
 reach-width [] = le-refl 0
 reach-width (s ∷ ss) = omega (arith, reach-width ss, tapReach-width s)
 
-pub kernel-none : (ss : List Stage) → Beyond (reach ss) (kernel ss)
+pub kernel-outside : (ss : List Stage) → Beyond (reach ss) (kernel ss)
 unfolding kernel reach
-kernel-none [] m h = rw (ne-eqb (natAbs m) 0 (omega arith))
-kernel-none (s ∷ ss) m h = within-none _ (λ j l. term (kernel-none ss) j (decLe (natAbs j) (tapReach s)))
+kernel-outside [] m h = rw (ne-eqb (natAbs m) 0 (omega arith))
+kernel-outside (s ∷ ss) m h = within-none _ (λ j l. term (kernel-outside ss) j (decLe (natAbs j) (tapReach s)))
   where
     term : Beyond (reach ss) (kernel ss) → (j : ℤ) → Dec (natAbs j ≤ tapReach s) → tap s j *ℤ kernel ss (m -ℤ j) ≡ pos 0
     term ih j (yes l) = *ℤ-zero-r (tap s j) (ih (m -ℤ j) (far m j h l))
-    term ih j (no l) = *ℤ-zero-l (kernel ss (m -ℤ j)) (tap-none s j (omega arith))
+    term ih j (no l) = *ℤ-zero-l (kernel ss (m -ℤ j)) (tap-outside s j (omega arith))
 
 -- at x the pass in front takes what it can, the others the rest
 right : {ss : List Stage} → Positive ss → (x : ℕ) → x ≤ reach ss → pos 0 <ℤ kernel ss (pos x)
