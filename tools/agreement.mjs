@@ -187,7 +187,7 @@ const OPENED = {
   'Rattle.algebra.specs.Within': 'sumWithin',
   'Rattle.meaning.specs.Extension': 'emod reflect fold ext',
   'Rattle.meaning.specs.Kernel': 'tap kernel width reach tapSum divisor',
-  'Rattle.meaning.specs.Smoothing': 'listOf result results weight near',
+  'Rattle.meaning.specs.Smoothing': 'listOf convolved result results weight near',
   'Rattle.meaning.specs.Picture': 'pixel grid picture',
   'Rattle.meaning.specs.Refusals': 'firstOf firstWhere rowAt some planRows sizeRows ifDone',
   'Rattle.meaning.specs.Values':

@@ -1,9 +1,11 @@
 -- Results of a series, under an index map φ.
 --   listOf n g           g 0, g 1, .. g (n - 1)
+--   convolved ss e n     the kernel of ss over a row e without ends, at n
 --   result φ ss f n      the result at a whole n
 --   results φ ss f       those of 0 .. N - 1
---   passAt s e n         one pass of stage s over e, at n;  pass φ s f  over a series. No call's outcome is said by these:
+--   passAt s e n         the taps of one pass over e, at n;  pass φ s f  over a series. No call's outcome is said by these:
 --                        they are what code does, K times, and that results come out is a law
+--   reads φ N p x        1 where the extension of N samples reads sample p at x, else 0
 --   weight φ ss N n p    how much of sample p of N the result at n holds
 --   apart n p            how far n is from p
 --   near ss n p          n lies within reach of p
@@ -22,8 +24,11 @@ listOf zero g = []
 listOf (suc n) g = g 0 ∷ listOf n (λ i. g (suc i))
 
 -- "The result at n is the sum over m of K-fold tap m times the extension at n-m."
+unfoldable pub convolved : List Stage → (ℤ → ℤ) → ℤ → ℤ
+convolved ss e n = sumWithin (width ss) (λ m. kernel ss m *ℤ e (n -ℤ m))
+
 unfoldable pub result : IndexMap → List Stage → List ℤ → ℤ → ℤ
-result φ ss f n = sumWithin (width ss) (λ m. kernel ss m *ℤ ext φ f (n -ℤ m))
+result φ ss f n = convolved ss (ext φ f) n
 
 unfoldable pub results : IndexMap → List Stage → List ℤ → List ℤ
 results φ ss f = listOf (length f) (λ n. result φ ss f (pos n))
@@ -34,9 +39,12 @@ passAt s e n = sumWithin (suc (s .radius)) (λ j. tap s j *ℤ e (n -ℤ j))
 unfoldable pub pass : IndexMap → Stage → List ℤ → List ℤ
 pass φ s f = listOf (length f) (λ n. passAt s (ext φ f) (pos n))
 
+abbrev pub reads : IndexMap → ℕ → ℕ → ℤ → ℤ
+reads φ N p x = pos (cond (eqb (φ N x) p) 1 0)
+
 -- the sum of the taps at which the extension reads sample p
 unfoldable pub weight : IndexMap → List Stage → ℕ → ℤ → ℕ → ℤ
-weight φ ss N n p = sumWithin (width ss) (λ m. kernel ss m *ℤ pos (cond (eqb (φ N (n -ℤ m)) p) 1 0))
+weight φ ss N n p = convolved ss (reads φ N p) n
 
 abbrev pub apart : ℕ → ℕ → ℕ
 apart n p = (n - p) + (p - n)

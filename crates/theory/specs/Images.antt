@@ -4,11 +4,14 @@
 -- weight-images (four strided sums: the images of p lie so far from n, on either side, and every 2N on).
 use mathlib.Core.Path.{_≡_, sym, _∙_, ap, ap₂}
 use mathlib.Core.Logic.{_≢_}
+use mathlib.Core.Bool.{cond}
 use mathlib.Core.List.{List}
 use Prim.Native.Nat.{ℕ, suc, _+_, _*_, _-_, _≤_, _<_}
 use native.Mathlib.Nat.{mul-le-mul-left}
 use native.Mathlib.Omega.{arith}
+use lib.Dec.{eqb}
 use lib.IntN.{ℤ, pos, negsuc, negℤ, natAbs, _+ℤ_, _-ℤ_, _*ℤ_, +ℤ-idr, +ℤ-assoc}
+use borrow.Author.Tests.{eq-eqb, ne-eqb}
 use Rattle.algebra.specs.Difference.{minus, rep, diff, linear}
 use Rattle.algebra.specs.Ring.{ac, sub-back, *ℤ-idr, *ℤ-zero-l, *ℤ-zero-r}
 use Rattle.algebra.specs.Order.{of+, of-neg}
@@ -17,9 +20,8 @@ use Rattle.algebra.specs.Sum.{sum, sum-ext, sum-none, sum-+, sum-next, sum-spli
 use Rattle.algebra.specs.Within.{sumWithin, beyond-*, within-ext, within-halves, within-neg, within-shift}
 use Rattle.meaning.specs.Extension.{reflect, fold}
 use Rattle.meaning.specs.Kernel.{Stage, kernel, width}
-use Rattle.meaning.specs.Smoothing.{weight, apart}
+use Rattle.meaning.specs.Smoothing.{convolved, weight, apart}
 use Rattle.theory.specs.Kernel.{kernel-symmetric, kernel-beyond}
-use Rattle.theory.specs.Weights.{hit, hit-same, hit-other}
 use Rattle.theory.specs.HalfSample.{reflect-min, fold-at, fold-negsuc}
 
 unfoldable pub strided : List Stage → ℕ → ℕ → ℤ
@@ -35,8 +37,12 @@ enough : (w N : ℕ) → 0 < N → w + 2 * N ≤ suc w * (2 * N)
 enough w N h = omega (arith, mul-le-mul-left w h)
 
 -- ---- over whole periods: in each, p and its mirror read p
+-- 1 where i is p, as in `reads`
+abbrev hit : ℕ → ℕ → ℤ
+hit i p = pos (cond (eqb i p) 1 0)
+
 sum-hit : (f : ℕ → ℕ) (g : ℕ → ℤ) (p n q : ℕ) → q < n → f q ≡ p → ((t : ℕ) → t < n → t ≢ q → f t ≢ p) → sum n (λ t. g t *ℤ hit (f t) p) ≡ g q
-sum-hit f g p n q l e h = sum-only n q _ l (λ t k d. *ℤ-zero-r (g t) (hit-other (h t k d))) ∙ rw (e, hit-same p) (*ℤ-idr (g q))
+sum-hit f g p n q l e h = sum-only n q _ l (λ t k d. *ℤ-zero-r (g t) (rw (ne-eqb (f t) p (h t k d)))) ∙ rw (eq-eqb (f q) p e) (*ℤ-idr (g q))
 
 module _ (N p : ℕ) (h : p < N) where
   period : (g : ℕ → ℤ) → sum (2 * N) (λ t. g t *ℤ hit (reflect N t) p) ≡ g p +ℤ g (2 * N - suc p)
@@ -104,7 +110,7 @@ module _ (ss : List Stage) (N : ℕ) where
     at x = kernel ss (pos n -ℤ x) *ℤ hit (fold N x) p
 
     over-places : (R : ℕ) → width ss + n ≤ R → weight fold ss N (pos n) p ≡ sumWithin R at
-    unfolding weight at
+    unfolding weight convolved at
     over-places R l =
         sym (within-shift (width ss) R f (negℤ (pos n)) (rw (natAbs-neg (pos n)) l) (beyond-* _ (kernel-beyond ss)))
         ∙ sym (within-neg R _)

@@ -2,8 +2,9 @@
 --   Folding      what an index map must be for the laws
 --   HalfSample   the map of document 01 is one
 --   Lists        lists by their elements, and how large those are
---   Kernel       symmetric, never negative, its sum; a stage in front
---   Stages       one after the other, K equal ones
+--   Kernel       symmetric, never negative, 0 beyond its width
+--   Convolution  a stage in front, stages one after the other; linear; the kernel's sum
+--   Stages       the numbers of stages one after the other, and of K equal ones
 --   Reach        where the kernel is above 0
 --   Order        the order of stages does not matter
 --   Moment       variances add
@@ -19,6 +20,7 @@ pub mod Folding
 pub mod HalfSample
 pub mod Lists
 pub mod Kernel
+pub mod Convolution
 pub mod Stages
 pub mod Reach
 pub mod Order

@@ -1,19 +1,18 @@
 -- The order of stages does not matter.
 --   Reordered ss ts   ts has the stages of ss, in some order
 -- Laws: append-order (which of two lists comes first);
--- width-order, reach-order, divisor-order, kernel-order, moment-order, result-order, results-order.
+-- width-order, reach-order, divisor-order, convolve-order, kernel-order, result-order, results-order.
 use mathlib.Core.Path.{_≡_, refl, sym, _∙_, ap}
 use mathlib.Core.List.{List, [], _∷_, _++_, append-nil}
-use Prim.Native.Nat.{_+_, _*_}
+use Prim.Native.Nat.{_+_}
 use native.Mathlib.Nat.{mul-left-comm}
 use native.Mathlib.Omega.{arith}
 use lib.ListN.{length}
-use lib.IntN.{ℤ, pos, _-ℤ_, _*ℤ_}
-use Rattle.algebra.specs.Ring.{ac, *ℤ-left-comm}
-use Rattle.algebra.specs.Within.{sumWithin, within-ext, within-*, within-swap}
+use lib.IntN.{ℤ, pos}
 use Rattle.meaning.specs.Extension.{IndexMap, ext}
-use Rattle.meaning.specs.Kernel.{Stage, tap, kernel, width, reach, tapSum, divisor, moment}
-use Rattle.meaning.specs.Smoothing.{result, results}
+use Rattle.meaning.specs.Kernel.{Stage, kernel, width, reach, tapSum, divisor}
+use Rattle.meaning.specs.Smoothing.{passAt, convolved, result, results}
+use Rattle.theory.specs.Convolution.{passAt-ext, passAt-swap, convolve-cons, kernel-append}
 use Rattle.theory.specs.Lists.{listOf-ext}
 
 pub data Reordered : List Stage → List Stage → Type 0 where
@@ -55,32 +54,25 @@ divisor-order (keep s o) = rw (divisor-order o)
 divisor-order (swap s t ss) = mul-left-comm (tapSum s) (tapSum t) (divisor ss)
 divisor-order (then o q) = divisor-order o ∙ divisor-order q
 
-kernel-swap : (s t : Stage) (ss : List Stage) (m : ℤ) → kernel (s ∷ t ∷ ss) m ≡ kernel (t ∷ s ∷ ss) m
-unfolding kernel
-kernel-swap s t ss m =
-    within-ext _ (λ i l. sym (within-* _ (tap s i) _))
-    ∙ within-swap _ _ (λ i j. tap s i *ℤ (tap t j *ℤ kernel ss (m -ℤ i -ℤ j)))
-    ∙ within-ext _ (λ j l. within-ext _ (λ i k. *ℤ-left-comm (tap s i) (tap t j) _ ∙ ap (λ z. tap t j *ℤ (tap s i *ℤ kernel ss z)) (sub-comm m i j)) ∙ within-* _ (tap t j) _)
+pub convolve-order : {ss ts : List Stage} → Reordered ss ts → (e : ℤ → ℤ) (n : ℤ) → convolved ss e n ≡ convolved ts e n
+convolve-order empty e n = refl
+convolve-order {ss = _ ∷ ss} {ts = _ ∷ ts} (keep s o) e n = convolve-cons s ss e n ∙ passAt-ext s (convolve-order o e) n ∙ sym (convolve-cons s ts e n)
+convolve-order (swap s t ss) e n = two s t ∙ passAt-swap s t (convolved ss e) n ∙ sym (two t s)
   where
-    sub-comm : (m i j : ℤ) → m -ℤ i -ℤ j ≡ m -ℤ j -ℤ i
-    sub-comm m i j = simp ac
+    two : (s t : Stage) → convolved (s ∷ t ∷ ss) e n ≡ passAt s (passAt t (convolved ss e)) n
+    two s t = convolve-cons s (t ∷ ss) e n ∙ passAt-ext s (convolve-cons t ss e) n
+convolve-order (then o q) e n = convolve-order o e n ∙ convolve-order q e n
 
 pub kernel-order : {ss ts : List Stage} → Reordered ss ts → (m : ℤ) → kernel ss m ≡ kernel ts m
-unfolding kernel
-kernel-order empty m = refl
-kernel-order (keep s o) m = within-ext _ (λ j l. ap (λ z. tap s j *ℤ z) (kernel-order o (m -ℤ j)))
-kernel-order (swap s t ss) m = kernel-swap s t ss m
-kernel-order (then o q) m = kernel-order o m ∙ kernel-order q m
+kernel-order {ss} {ts} o m = alone ss ∙ convolve-order o (kernel []) m ∙ sym (alone ts)
+  where
+    alone : (ss : List Stage) → kernel ss m ≡ convolved ss (kernel []) m
+    alone ss = ap (λ l. kernel l m) (sym (append-nil ss)) ∙ kernel-append ss [] m
 
-pub moment-order : {ss ts : List Stage} → Reordered ss ts → moment ss ≡ moment ts
-unfolding moment
-moment-order {ss} {ts} o = ap (λ w. sumWithin w (λ m. kernel ss m *ℤ (m *ℤ m))) (width-order o) ∙ within-ext _ (λ m l. ap (λ z. z *ℤ (m *ℤ m)) (kernel-order o m))
+pub result-order : (φ : IndexMap) {ss ts : List Stage} → Reordered ss ts → (f : List ℤ) (n : ℤ) → result φ ss f n ≡ result φ ts f n
+unfolding result
+result-order φ o f n = convolve-order o (ext φ f) n
 
-module _ (φ : IndexMap) where
-  pub result-order : {ss ts : List Stage} → Reordered ss ts → (f : List ℤ) (n : ℤ) → result φ ss f n ≡ result φ ts f n
-  unfolding result
-  result-order {ss} o f n = ap (λ w. sumWithin w (λ m. kernel ss m *ℤ ext φ f (n -ℤ m))) (width-order o) ∙ within-ext _ (λ m l. ap (λ z. z *ℤ ext φ f (n -ℤ m)) (kernel-order o m))
-
-  pub results-order : {ss ts : List Stage} → Reordered ss ts → (f : List ℤ) → results φ ss f ≡ results φ ts f
-  unfolding results
-  results-order o f = listOf-ext (length f) (λ n l. result-order o f (pos n))
+pub results-order : (φ : IndexMap) {ss ts : List Stage} → Reordered ss ts → (f : List ℤ) → results φ ss f ≡ results φ ts f
+unfolding results
+results-order φ o f = listOf-ext (length f) (λ n l. result-order φ o f (pos n))

@@ -9,23 +9,19 @@ use mathlib.Core.List.{List, [], _∷_, _++_}
 use Prim.Native.Nat.{ℕ, zero, suc, _<_}
 use native.Mathlib.Omega.{arith}
 use lib.ListN.{length, replicate}
-use lib.IntN.{ℤ, pos, negℤ, _+ℤ_, _-ℤ_, _*ℤ_, +ℤ-idr}
-use Rattle.algebra.specs.Ring.{ac}
-use Rattle.algebra.specs.Within.{sumWithin, within-ext, within-neg}
+use lib.IntN.{ℤ, pos, negℤ, _-ℤ_, _*ℤ_}
+use Rattle.algebra.specs.Within.{within-ext, within-neg}
 use Rattle.meaning.specs.Extension.{at, IndexMap, ext}
-use Rattle.meaning.specs.Kernel.{Stage, tap, kernel, width}
-use Rattle.meaning.specs.Smoothing.{result, results, passAt, pass}
-use Rattle.theory.specs.Kernel.{kernel-symmetric, convolve-cons}
-use Rattle.theory.specs.Stages.{convolve-none, convolve-append}
+use Rattle.meaning.specs.Kernel.{Stage, kernel}
+use Rattle.meaning.specs.Smoothing.{convolved, result, results, passAt, pass}
+use Rattle.theory.specs.Kernel.{kernel-symmetric}
+use Rattle.theory.specs.Convolution.{passAt-ext, convolve-none, convolve-cons, convolve-append}
 use Rattle.theory.specs.Lists.{length-listOf, at-listOf, listOf-ext, listOf-at}
 use Rattle.theory.specs.Folding.{Folding, Follows, forward, backward}
 
 unfoldable pub repeated : ℕ → (List ℤ → List ℤ) → List ℤ → List ℤ
 repeated zero g f = f
 repeated (suc K) g f = g (repeated K g f)
-
-sub-sum : (n m j : ℤ) → n -ℤ (m +ℤ j) ≡ n -ℤ j -ℤ m
-sub-sum n m j = simp ac
 
 module _ (φ : IndexMap) where
   -- ---- shape
@@ -44,22 +40,18 @@ module _ (φ : IndexMap) where
   -- ---- at every whole n
   pub result-none : (f : List ℤ) (n : ℤ) → result φ [] f n ≡ ext φ f n
   unfolding result
-  result-none f n = convolve-none (λ m. ext φ f (n -ℤ m)) ∙ ap (ext φ f) (+ℤ-idr n)
+  result-none f n = convolve-none (ext φ f) n
 
   pub result-cons : (s : Stage) (ss : List Stage) (f : List ℤ) (n : ℤ) → result φ (s ∷ ss) f n ≡ passAt s (result φ ss f) n
-  unfolding result passAt
-  result-cons s ss f n =
-      convolve-cons s ss (λ m. ext φ f (n -ℤ m))
-      ∙ within-ext _ (λ j l. ap (λ z. tap s j *ℤ z) (within-ext _ (λ m t. ap (λ z. kernel ss m *ℤ ext φ f z) (sub-sum n m j))))
-
-  pub result-append : (ss ts : List Stage) (f : List ℤ) (n : ℤ) → result φ (ss ++ ts) f n ≡ sumWithin (width ss) (λ j. kernel ss j *ℤ result φ ts f (n -ℤ j))
   unfolding result
-  result-append ss ts f n =
-      convolve-append ss ts (λ m. ext φ f (n -ℤ m))
-      ∙ within-ext _ (λ j l. ap (λ z. kernel ss j *ℤ z) (within-ext _ (λ m t. ap (λ z. kernel ts m *ℤ ext φ f z) (sub-sum n m j))))
+  result-cons s ss f n = convolve-cons s ss (ext φ f) n
+
+  pub result-append : (ss ts : List Stage) (f : List ℤ) (n : ℤ) → result φ (ss ++ ts) f n ≡ convolved ss (result φ ts f) n
+  unfolding result
+  result-append ss ts f n = convolve-append ss ts (ext φ f) n
 
   follows : (ss : List Stage) (f : List ℤ) (n : ℤ) (p : ℕ) → Follows (φ (length f)) n p → result φ ss f n ≡ result φ ss f (pos p)
-  unfolding result ext
+  unfolding result convolved ext
   follows ss f n p (forward h) = within-ext _ (λ m l. ap (λ i. kernel ss m *ℤ at f i) (h (negℤ m)))
   follows ss f n p (backward h) =
       within-ext _ (λ m l. ap₂ (λ k i. k *ℤ at f i) (sym (kernel-symmetric ss m)) (h (negℤ m)))
@@ -80,8 +72,8 @@ module _ {φ : IndexMap} (F : Folding φ) where
   results-none f = listOf-ext (length f) (λ n l. result-none φ f (pos n) ∙ ap (at f) (F .here l)) ∙ listOf-at (length f) f refl
 
   pub results-cons : (s : Stage) (ss : List Stage) (f : List ℤ) → results φ (s ∷ ss) f ≡ pass φ s (results φ ss f)
-  unfolding results pass passAt
-  results-cons s ss f = rw (length-results φ ss f) (listOf-ext (length f) (λ n l. result-cons φ s ss f (pos n) ∙ within-ext _ (λ j t. ap (λ z. tap s j *ℤ z) (sym (ext-results ss f (omega arith) (pos n -ℤ j))))))
+  unfolding results pass
+  results-cons s ss f = rw (length-results φ ss f) (listOf-ext (length f) (λ n l. result-cons φ s ss f (pos n) ∙ passAt-ext s (λ x. sym (ext-results ss f (omega arith) x)) (pos n)))
 
   pub results-append : (ss ts : List Stage) (f : List ℤ) → results φ (ss ++ ts) f ≡ results φ ss (results φ ts f)
   results-append [] ts f = sym (results-none (results φ ts f))

@@ -14,12 +14,13 @@ use lib.Seq.{getD-append-add, ext-getD}
 use lib.IntN.{ℤ, pos, _-ℤ_, _*ℤ_}
 use Rattle.algebra.specs.Ring.{ac, *ℤ-assoc}
 use Rattle.algebra.specs.Size.{Abs}
-use Rattle.algebra.specs.Within.{sumWithin, within-ext, within-*, within-swap}
+use Rattle.algebra.specs.Within.{within-ext, within-*, within-swap}
 use Rattle.meaning.specs.Extension.{at, IndexMap, ext}
-use Rattle.meaning.specs.Kernel.{Stage, kernel, width, divisor}
-use Rattle.meaning.specs.Smoothing.{listOf, result, results, pass}
+use Rattle.meaning.specs.Kernel.{Stage, kernel, divisor}
+use Rattle.meaning.specs.Smoothing.{listOf, convolved, result, results, pass}
 use Rattle.meaning.specs.Picture.{cell, pixel, grid, picture, row, column, across, down}
 use Rattle.theory.specs.Folding.{Folding}
+use Rattle.theory.specs.Convolution.{convolve-ext}
 use Rattle.theory.specs.Lists.{length-listOf, at-listOf, listOf-ext, listOf-at, Sized, sized, sized-listOf}
 use Rattle.theory.specs.Passes.{length-results, at-results, results-none, results-cons}
 use Rattle.theory.specs.Sizes.{results-size}
@@ -124,16 +125,16 @@ module _ {φ : IndexMap} (F : Folding φ) where
   down-none W H f e = down-ext _ (λ g. g) W H f (λ g l. results-none F g) ∙ unfold down column in (grid-ext W H (λ x y l m. at-listOf H _ y m) ∙ grid-cell W H f e)
 
   -- a result of a line whose cells are g
-  at-line : (ss : List Stage) (n : ℕ) (g : ℕ → ℤ) (i : ℕ) → i < n → at (results φ ss (listOf n g)) i ≡ sumWithin (width ss) (λ j. kernel ss j *ℤ g (φ n (pos i -ℤ j)))
+  at-line : (ss : List Stage) (n : ℕ) (g : ℕ → ℤ) (i : ℕ) → i < n → at (results φ ss (listOf n g)) i ≡ convolved ss (λ x. g (φ n x)) (pos i)
   unfolding result ext
   at-line ss n g i h =
       at-results φ ss (listOf n g) i (omega (arith, length-listOf n g))
-      ∙ rw (length-listOf n g) (within-ext _ (λ j l. ap (λ z. kernel ss j *ℤ z) (at-listOf n g _ (F .below (omega arith) (pos i -ℤ j)))))
+      ∙ convolve-ext ss (λ x. rw (length-listOf n g) (at-listOf n g (φ n x) (F .below (omega arith) x))) (pos i)
 
 -- ---- rows first, columns first
 module _ {φ ψ : IndexMap} (F : Folding φ) (G : Folding ψ) (hs vs : List Stage) (W H : ℕ) (f : List ℤ) where
   pub rows-first : down (results ψ vs) W H (across (results φ hs) W H f) ≡ picture φ ψ hs vs W H f
-  unfolding down across row column picture pixel
+  unfolding down across row column picture pixel convolved
   rows-first = grid-ext W H (λ x y hx hy.
       at-line G vs H _ y hy
       ∙ within-ext _ (λ j l.
@@ -146,7 +147,7 @@ module _ {φ ψ : IndexMap} (F : Folding φ) (G : Folding ψ) (hs vs : List Stag
       regroup a b c = simp ac
 
   pub columns-first : across (results φ hs) W H (down (results ψ vs) W H f) ≡ picture φ ψ hs vs W H f
-  unfolding down across row column picture pixel
+  unfolding down across row column picture pixel convolved
   columns-first = grid-ext W H (λ x y hx hy.
       at-line F hs W _ x hx
       ∙ within-ext _ (λ i l.

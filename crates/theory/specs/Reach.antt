@@ -1,19 +1,20 @@
 -- Where the kernel is: above 0 at every offset within the reach, and 0 beyond it.
--- Laws: tapReach-width, reach-width; tap-outside, tap-positive; kernel-outside, kernel-positive.
-use mathlib.Core.Path.{_≡_, _∙_, ap}
+-- Laws: tapReach-width, reach-width; tap-outside, tap-positive; kernel-outside, kernel-positive; convolve-local, convolve-positive.
+use mathlib.Core.Path.{_≡_, sym, _∙_, ap}
 use mathlib.Core.List.{List, [], _∷_}
 use Prim.Native.Nat.{ℕ, zero, suc, _-_, _≤_, _<_}
 use native.Mathlib.Nat.{le-refl}
 use native.Mathlib.Decide.{ℕ-discrete, decLe}
 use native.Mathlib.Omega.{arith}
 use lib.IntN.{ℤ, pos, negsuc, natAbs, _-ℤ_, _*ℤ_}
-use lib.Signed.{_<ℤ_}
+use lib.Signed.{_≤ℤ_, _<ℤ_}
 use borrow.Author.Tests.{lt-leb, eq-eqb, ne-eqb}
 use Rattle.algebra.specs.Difference.{sub-pos}
-use Rattle.algebra.specs.Ring.{*ℤ-zero-l, *ℤ-zero-r}
+use Rattle.algebra.specs.Ring.{sub-back, *ℤ-zero-l, *ℤ-zero-r}
 use Rattle.algebra.specs.Order.{nonneg-*, positive-pos, positive-*}
-use Rattle.algebra.specs.Within.{sumWithin, Beyond, within-none, within-positive}
+use Rattle.algebra.specs.Within.{sumWithin, Beyond, within-ext, within-none, within-positive}
 use Rattle.meaning.specs.Kernel.{Stage, tap, kernel, width, tapReach, reach}
+use Rattle.meaning.specs.Smoothing.{convolved}
 use Rattle.theory.specs.Kernel.{tap-inside, tap-edge, tap-nonneg, kernel-symmetric, kernel-nonneg, far}
 use Rattle.theory.specs.Stages.{Positive, none, _and_}
 
@@ -87,3 +88,18 @@ right {ss = s ∷ ss} (b and p) x h = go (right p) (decLe x (tapReach s))
 pub kernel-positive : {ss : List Stage} → Positive ss → (m : ℤ) → natAbs m ≤ reach ss → pos 0 <ℤ kernel ss m
 kernel-positive p (pos x) l = right p x l
 kernel-positive {ss} p (negsuc x) l = rw (kernel-symmetric ss (pos (suc x))) (right p (suc x) l)
+
+-- ---- over a row
+-- what e holds farther off than the reach does not count
+pub convolve-local : (ss : List Stage) {e g : ℤ → ℤ} (n : ℤ) → ((x : ℤ) → natAbs (n -ℤ x) ≤ reach ss → e x ≡ g x) → convolved ss e n ≡ convolved ss g n
+unfolding convolved
+convolve-local ss {e} {g} n h = within-ext _ (λ m l. go m (decLe (natAbs m) (reach ss)))
+  where
+    go : (m : ℤ) → Dec (natAbs m ≤ reach ss) → kernel ss m *ℤ e (n -ℤ m) ≡ kernel ss m *ℤ g (n -ℤ m)
+    go m (yes l) = ap (λ z. kernel ss m *ℤ z) (h (n -ℤ m) (rw (sub-back n m) l))
+    go m (no l) = *ℤ-zero-l (e (n -ℤ m)) (kernel-outside ss m (omega arith)) ∙ sym (*ℤ-zero-l (g (n -ℤ m)) (kernel-outside ss m (omega arith)))
+
+-- one number above 0 within reach, and none below
+pub convolve-positive : {ss : List Stage} → Positive ss → {e : ℤ → ℤ} → ((x : ℤ) → pos 0 ≤ℤ e x) → (n x : ℤ) → natAbs (n -ℤ x) ≤ reach ss → pos 0 <ℤ e x → pos 0 <ℤ convolved ss e n
+unfolding convolved
+convolve-positive {ss} p h n x l t = within-positive _ (λ m k. nonneg-* (kernel-nonneg ss m) (h (n -ℤ m))) (n -ℤ x) (omega (arith, reach-width ss)) (positive-* (kernel-positive p (n -ℤ x) l) (rw (sub-back n x) t))

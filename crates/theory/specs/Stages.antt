@@ -1,21 +1,16 @@
--- Lists of stages: one after the other, and K equal ones.
+-- The numbers of stages one after the other, and of K equal ones.
 --   Positive ss   every inner weight of ss is above 0
 -- Laws: width-append, reach-append, divisor-append; width-same, reach-same, divisor-same (of K equal stages);
 -- divisor-plan, reach-edged, reach-plain (document 01's numbers of a plan);
--- positive-same, positive-append, tapSum-positive, divisor-positive, divisor-part;
--- convolve-none, convolve-append (stages one after the other, over any row), kernel-append (their kernel is the two kernels' convolution).
-use mathlib.Core.Path.{_≡_, sym, _∙_, ap}
+-- positive-same, positive-append, tapSum-positive, divisor-positive, divisor-part.
+use mathlib.Core.Path.{_≡_, sym, _∙_}
 use mathlib.Core.List.{List, [], _∷_, _++_}
 use Prim.Native.Nat.{ℕ, zero, suc, _+_, _*_, _^_, _≤_, _<_}
 use native.Mathlib.Nat.{zero-mul, suc-mul, mul-assoc, mul-comm, one-mul, mul-pos, le-mul-of-pos-right, pow-zero, pow-suc}
 use native.Mathlib.Omega.{arith}
 use lib.ListN.{replicate}
 use borrow.Author.Tests.{ne-eqb}
-use lib.IntN.{ℤ, pos, _+ℤ_, _-ℤ_, _*ℤ_, +ℤ-idr, +ℤ-assoc}
-use Rattle.algebra.specs.Ring.{ac, *ℤ-idl}
-use Rattle.algebra.specs.Within.{sumWithin, within-ext}
-use Rattle.meaning.specs.Kernel.{Stage, plan, tap, kernel, width, tapReach, reach, tapSum, divisor}
-use Rattle.theory.specs.Kernel.{convolve-cons}
+use Rattle.meaning.specs.Kernel.{Stage, plan, width, tapReach, reach, tapSum, divisor}
 
 -- ---- numbers of stages one after the other
 pub width-append : (ss ts : List Stage) → width (ss ++ ts) ≡ width ss + width ts
@@ -85,26 +80,3 @@ divisor-positive {ss = s ∷ ss} (h and p) = mul-pos (tapSum-positive s h) (divi
 -- the divisor of the passes so far is no larger than that of all
 pub divisor-part : {ss : List Stage} (ts : List Stage) → Positive ss → divisor ts ≤ divisor (ss ++ ts)
 divisor-part {ss} ts p = rw (divisor-append ss ts, mul-comm (divisor ss) (divisor ts)) (le-mul-of-pos-right (divisor ts) (divisor-positive p))
-
--- ---- one after the other
--- no stages leave a row as it is
-pub convolve-none : (g : ℤ → ℤ) → sumWithin (width []) (λ m. kernel [] m *ℤ g m) ≡ g (pos 0)
-unfolding width kernel sumWithin
-convolve-none g = *ℤ-idl (g (pos 0))
-
-pub convolve-append : (ss ts : List Stage) (g : ℤ → ℤ) → sumWithin (width (ss ++ ts)) (λ m. kernel (ss ++ ts) m *ℤ g m) ≡ sumWithin (width ss) (λ j. kernel ss j *ℤ sumWithin (width ts) (λ m. kernel ts m *ℤ g (m +ℤ j)))
-convolve-append [] ts g = within-ext _ (λ m l. ap (λ z. kernel ts m *ℤ g z) (sym (+ℤ-idr m))) ∙ sym (convolve-none (λ j. sumWithin (width ts) (λ m. kernel ts m *ℤ g (m +ℤ j))))
-convolve-append (s ∷ ss) ts g =
-    convolve-cons s (ss ++ ts) g
-    ∙ within-ext _ (λ i l. ap (λ z. tap s i *ℤ z) (convolve-append ss ts (λ m. g (m +ℤ i)) ∙ within-ext _ (λ j k. ap (λ z. kernel ss j *ℤ z) (within-ext _ (λ m t. ap (λ z. kernel ts m *ℤ g z) (+ℤ-assoc m j i))))))
-    ∙ sym (convolve-cons s ss (λ j. sumWithin (width ts) (λ m. kernel ts m *ℤ g (m +ℤ j))))
-
-sub-sub : (m i j : ℤ) → m -ℤ j -ℤ i ≡ m -ℤ (i +ℤ j)
-sub-sub m i j = simp ac
-
-pub kernel-append : (ss ts : List Stage) (m : ℤ) → kernel (ss ++ ts) m ≡ sumWithin (width ss) (λ j. kernel ss j *ℤ kernel ts (m -ℤ j))
-unfolding kernel
-kernel-append [] ts m = ap (kernel ts) (sym (+ℤ-idr m)) ∙ sym (convolve-none (λ j. kernel ts (m -ℤ j)))
-kernel-append (s ∷ ss) ts m =
-    within-ext _ (λ j l. ap (λ z. tap s j *ℤ z) (kernel-append ss ts (m -ℤ j) ∙ within-ext _ (λ i k. ap (λ z. kernel ss i *ℤ kernel ts z) (sub-sub m i j))))
-    ∙ sym (convolve-cons s ss (λ i. kernel ts (m -ℤ i)))
