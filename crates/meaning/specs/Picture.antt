@@ -8,11 +8,10 @@
 --                                 these: that smoothing across and down, in either order, gives `picture` is a law
 use Prim.Native.Nat.{ℕ, zero, suc, _+_, _*_}
 use mathlib.Core.List.{List, [], _++_}
-use lib.IntN.{ℤ, pos, _-ℤ_, _*ℤ_}
-use Rattle.algebra.specs.Within.{sumWithin}
+use lib.IntN.{ℤ, pos}
 use Rattle.meaning.specs.Extension.{at, IndexMap}
-use Rattle.meaning.specs.Kernel.{Stage, kernel, width}
-use Rattle.meaning.specs.Smoothing.{listOf}
+use Rattle.meaning.specs.Kernel.{Stage}
+use Rattle.meaning.specs.Smoothing.{listOf, convolved}
 
 -- "Column x of row y is index y·width + x."
 abbrev pub cell : ℕ → List ℤ → ℕ → ℕ → ℤ
@@ -20,10 +19,7 @@ cell W f x y = at f (y * W + x)
 
 -- "Rows of a picture use the horizontal plan, columns the vertical"
 unfoldable pub pixel : IndexMap → IndexMap → List Stage → List Stage → ℕ → ℕ → List ℤ → ℤ → ℤ → ℤ
-pixel φ ψ hs vs W H f x y =
-    sumWithin (width hs) λ i.
-    sumWithin (width vs) λ j.
-    kernel hs i *ℤ kernel vs j *ℤ cell W f (φ W (x -ℤ i)) (ψ H (y -ℤ j))
+pixel φ ψ hs vs W H f x y = convolved hs (λ i. convolved vs (λ j. cell W f (φ W i) (ψ H j)) y) x
 
 unfoldable pub grid : ℕ → ℕ → (ℕ → ℕ → ℤ) → List ℤ
 grid W zero g = []

@@ -1,6 +1,6 @@
 -- The taps of a pass, and the kernel of all passes, over a row e without ends.
 -- Laws: passAt-ext, passAt-const, tap-sum, passAt-swap; convolve-ext, convolve-none, convolve-cons (a stage in front is one pass more), convolve-append;
--- convolve-const, convolve-+, convolve-*, convolve-sum, convolve-mirror, convolve-nonneg;
+-- convolve-const, convolve-+, convolve-*, convolve-sum, convolve-nonneg;
 -- kernel-append (of stages one after the other: the two kernels' convolution), kernel-sum.
 use mathlib.Core.Path.{_≡_, sym, _∙_, ap, ap₂}
 use mathlib.Core.List.{List, [], _∷_, _++_}
@@ -69,6 +69,10 @@ module _ (s : Stage) (ss : List Stage) (e : ℤ → ℤ) (n : ℤ) where
       ∙ within-swap _ _ (λ m j. tap s j *ℤ (kernel ss (m -ℤ j) *ℤ e (n -ℤ m)))
       ∙ within-ext _ (λ j l. within-* _ (tap s j) (λ m. kernel ss (m -ℤ j) *ℤ e (n -ℤ m)) ∙ ap (λ z. tap s j *ℤ z) (moved j l))
 
+-- one stage is one pass
+pub passAt-one : (s : Stage) (e : ℤ → ℤ) (n : ℤ) → convolved (s ∷ []) e n ≡ passAt s e n
+passAt-one s e n = convolve-cons s [] e n ∙ passAt-ext s (convolve-none e) n
+
 pub convolve-append : (ss ts : List Stage) (e : ℤ → ℤ) (n : ℤ) → convolved (ss ++ ts) e n ≡ convolved ss (convolved ts e) n
 convolve-append [] ts e n = sym (convolve-none (convolved ts e) n)
 convolve-append (s ∷ ss) ts e n = convolve-cons s (ss ++ ts) e n ∙ passAt-ext s (convolve-append ss ts e) n ∙ sym (convolve-cons s ss (convolved ts e) n)
@@ -100,16 +104,15 @@ pub convolve-sum : (ss : List Stage) (N : ℕ) (g : ℕ → ℤ → ℤ) (n : �
 unfolding convolved
 convolve-sum ss N g n = within-ext _ (λ m l. sym (sum-* N (kernel ss m) (λ p. g p (n -ℤ m)))) ∙ within-sum _ N (λ m p. kernel ss m *ℤ g p (n -ℤ m))
 
--- ---- a row read backward, and one without negative numbers
-pub convolve-mirror : (ss : List Stage) (e : ℤ → ℤ) (c n : ℤ) → convolved ss (λ x. e (c -ℤ x)) n ≡ convolved ss e (c -ℤ n)
+-- a row of rows, along either first
+pub convolve-swap : (ss ts : List Stage) (g : ℤ → ℤ → ℤ) (n m : ℤ) → convolved ss (λ x. convolved ts (g x) m) n ≡ convolved ts (λ y. convolved ss (λ x. g x y) n) m
 unfolding convolved
-convolve-mirror ss e c n =
-    within-ext _ (λ m l. ap₂ (λ k x. k *ℤ e x) (sym (kernel-symmetric ss m)) (turned c n m))
-    ∙ within-neg _ (λ m. kernel ss m *ℤ e (c -ℤ n -ℤ m))
-  where
-    turned : (c n m : ℤ) → c -ℤ (n -ℤ m) ≡ c -ℤ n -ℤ negℤ m
-    turned c n m = simp ac
+convolve-swap ss ts g n m =
+    within-ext _ (λ i l. sym (within-* _ (kernel ss i) _))
+    ∙ within-swap _ _ (λ i j. kernel ss i *ℤ (kernel ts j *ℤ g (n -ℤ i) (m -ℤ j)))
+    ∙ within-ext _ (λ j l. within-ext _ (λ i k. *ℤ-left-comm (kernel ss i) (kernel ts j) _) ∙ within-* _ (kernel ts j) _)
 
+-- ---- a row without negative numbers
 pub convolve-nonneg : (ss : List Stage) {e : ℤ → ℤ} → ((x : ℤ) → pos 0 ≤ℤ e x) → (n : ℤ) → pos 0 ≤ℤ convolved ss e n
 unfolding convolved
 convolve-nonneg ss h n = within-nonneg _ (λ m l. nonneg-* (kernel-nonneg ss m) (h (n -ℤ m)))

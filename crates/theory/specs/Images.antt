@@ -19,17 +19,17 @@ use Rattle.algebra.specs.Size.{of-abs, natAbs-neg, natAbs-sub}
 use Rattle.algebra.specs.Sum.{sum, sum-ext, sum-none, sum-+, sum-next, sum-split, sum-blocks, sum-only}
 use Rattle.algebra.specs.Within.{sumWithin, beyond-*, within-ext, within-halves, within-neg, within-shift}
 use Rattle.meaning.specs.Extension.{reflect, fold}
-use Rattle.meaning.specs.Kernel.{Stage, kernel, width}
+use Rattle.meaning.specs.Kernel.{Stage, kernel, width, reach}
 use Rattle.meaning.specs.Smoothing.{convolved, weight, apart}
-use Rattle.theory.specs.Kernel.{kernel-symmetric, kernel-beyond}
+use Rattle.theory.specs.Kernel.{kernel-symmetric, kernel-beyond, kernel-outside}
 use Rattle.theory.specs.HalfSample.{reflect-min, fold-at, fold-negsuc}
 
 unfoldable pub strided : List Stage → ℕ → ℕ → ℤ
 strided ss N d = sum (suc (width ss)) (λ i. kernel ss (pos (d + i * (2 * N))))
 
-pub strided-beyond : (ss : List Stage) (N d : ℕ) → width ss < d → strided ss N d ≡ pos 0
+pub strided-beyond : (ss : List Stage) (N d : ℕ) → reach ss < d → strided ss N d ≡ pos 0
 unfolding strided
-strided-beyond ss N d h = sum-none _ (λ i l. kernel-beyond ss _ (omega arith))
+strided-beyond ss N d h = sum-none _ (λ i l. kernel-outside ss _ (omega arith))
 
 -- ---- sums
 -- w + 1 periods are a period longer than w

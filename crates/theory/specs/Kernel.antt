@@ -5,15 +5,17 @@
 use mathlib.Core.Path.{_≡_, refl, sym, _∙_, ap, ap₂}
 use mathlib.Core.List.{List, [], _∷_}
 use Prim.Native.Nat.{ℕ, suc, _+_, _*_, _≤_, _<_}
+use native.Mathlib.Nat.{le-refl}
+use native.Mathlib.Decide.{ℕ-discrete, decLe}
 use native.Mathlib.Omega.{arith}
 use lib.IntN.{ℤ, pos, negsuc, negℤ, natAbs, _+ℤ_, _-ℤ_, _*ℤ_, negℤ-+ℤ, negℤ-negℤ}
 use lib.Signed.{_≤ℤ_}
 use borrow.Author.Tests.{le-leb, lt-leb, eq-eqb, ne-eqb}
-use Rattle.algebra.specs.Ring.{*ℤ-zero-r, *ℤ-+ℤ}
+use Rattle.algebra.specs.Ring.{*ℤ-zero-l, *ℤ-zero-r, *ℤ-+ℤ}
 use Rattle.algebra.specs.Order.{nonneg-pos, nonneg-*}
 use Rattle.algebra.specs.Size.{natAbs-neg, natAbs-back}
 use Rattle.algebra.specs.Within.{sumWithin, Beyond, within-ext, within-none, within-*, within-neg, within-nonneg}
-use Rattle.meaning.specs.Kernel.{Stage, tap, kernel, width}
+use Rattle.meaning.specs.Kernel.{Stage, tap, kernel, width, tapReach, reach}
 use Rattle.meaning.specs.Smoothing.{passAt}
 
 -- ---- one pass
@@ -43,6 +45,36 @@ tap-split s g = ap₂ _+ℤ_
     r : ℕ
     r = s .radius
 
+-- ---- how far its taps go
+pub data Edge (s : Stage) : Type 0 where
+  plain : s .edge ≡ 0 → tapReach s ≡ s .radius → Edge s
+  edged : 0 < s .edge → tapReach s ≡ suc (s .radius) → Edge s
+
+pub edge : (s : Stage) → Edge s
+edge s = go (ℕ-discrete (s .edge) 0)
+  where
+    go : Dec (s .edge ≡ 0) → Edge s
+    go (yes e) = plain e (rw (eq-eqb _ _ e))
+    go (no e) = edged (omega arith) (rw (ne-eqb _ _ e))
+
+pub tapReach-width : (s : Stage) → tapReach s ≤ suc (s .radius)
+tapReach-width s = go (edge s)
+  where
+    go : Edge s → tapReach s ≤ suc (s .radius)
+    go (plain e i) = omega arith
+    go (edged e i) = omega arith
+
+pub tap-outside : (s : Stage) → Beyond (tapReach s) (tap s)
+tap-outside s m h = go (edge s) (ℕ-discrete (natAbs m) (suc (s .radius)))
+  where
+    outside : suc (s .radius) < natAbs m → tap s m ≡ pos 0
+    outside l = unfold tap in rw (lt-leb (natAbs m) (s .radius) (omega arith), ne-eqb (natAbs m) (suc (s .radius)) (omega arith))
+
+    go : Edge s → Dec (natAbs m ≡ suc (s .radius)) → tap s m ≡ pos 0
+    go (plain e i) (yes j) = tap-edge s m j ∙ ap pos e
+    go (plain e i) (no j) = outside (omega arith)
+    go (edged e i) d = outside (omega arith)
+
 -- ---- the kernel
 pub kernel-none : kernel [] (pos 0) ≡ pos 1
 unfolding kernel
@@ -67,10 +99,22 @@ unfolding kernel
 kernel-nonneg [] m = nonneg-pos
 kernel-nonneg (s ∷ ss) m = within-nonneg _ (λ j l. nonneg-* (tap-nonneg s j) (kernel-nonneg ss (m -ℤ j)))
 
-pub far : (m j : ℤ) {w R : ℕ} → w + R < natAbs m → natAbs j ≤ R → w < natAbs (m -ℤ j)
+far : (m j : ℤ) {w R : ℕ} → w + R < natAbs m → natAbs j ≤ R → w < natAbs (m -ℤ j)
 far m j h l = omega (arith, natAbs-back m j)
 
+pub reach-width : (ss : List Stage) → reach ss ≤ width ss
+unfolding reach width
+reach-width [] = le-refl 0
+reach-width (s ∷ ss) = omega (arith, reach-width ss, tapReach-width s)
+
+pub kernel-outside : (ss : List Stage) → Beyond (reach ss) (kernel ss)
+unfolding kernel reach
+kernel-outside [] m h = rw (ne-eqb (natAbs m) 0 (omega arith))
+kernel-outside (s ∷ ss) m h = within-none _ (λ j l. term (kernel-outside ss) j (decLe (natAbs j) (tapReach s)))
+  where
+    term : Beyond (reach ss) (kernel ss) → (j : ℤ) → Dec (natAbs j ≤ tapReach s) → tap s j *ℤ kernel ss (m -ℤ j) ≡ pos 0
+    term ih j (yes l) = *ℤ-zero-r (tap s j) (ih (m -ℤ j) (far m j h l))
+    term ih j (no l) = *ℤ-zero-l (kernel ss (m -ℤ j)) (tap-outside s j (omega arith))
+
 pub kernel-beyond : (ss : List Stage) → Beyond (width ss) (kernel ss)
-unfolding kernel width
-kernel-beyond [] m h = rw (ne-eqb (natAbs m) 0 (omega arith))
-kernel-beyond (s ∷ ss) m h = within-none _ (λ j l. *ℤ-zero-r (tap s j) (kernel-beyond ss (m -ℤ j) (far m j h l)))
+kernel-beyond ss m h = kernel-outside ss m (omega (arith, reach-width ss))

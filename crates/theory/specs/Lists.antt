@@ -2,13 +2,13 @@
 --   Sized M f   no element of f is larger than M; past its end f reads as 0
 -- Laws: length-listOf, at-listOf, listOf-ext, listOf-at, listOf-last; at-past;
 -- sized, sized-weaken, sized-listOf, sized-set.
-use mathlib.Core.Path.{_≡_, refl, ap, ap₂}
+use mathlib.Core.Path.{_≡_, refl, sym, _∙_, ap, ap₂}
 use mathlib.Core.List.{List, [], _∷_, _++_}
 use Prim.Native.Nat.{ℕ, zero, suc, _≤_, _<_}
 use native.Mathlib.Decide.{ℕ-discrete, decLt}
 use native.Mathlib.Omega.{arith}
 use lib.ListN.{length, set, List·getD-eq-default}
-use lib.Seq.{getD-set-same, getD-set-other}
+use lib.Seq.{getD-set-same, getD-set-other, ext-getD}
 use lib.IntN.{ℤ, pos}
 use Rattle.algebra.specs.Size.{Abs, abs-weaken}
 use Rattle.meaning.specs.Extension.{at}
@@ -33,11 +33,7 @@ listOf-ext (suc n) e = ap₂ _∷_ (e 0 (omega arith)) (listOf-ext n (λ i l. e 
 
 -- a list is that of its elements
 pub listOf-at : (n : ℕ) (f : List ℤ) → length f ≡ n → listOf n (at f) ≡ f
-unfolding listOf
-listOf-at zero [] e = refl
-listOf-at zero (x ∷ f) e = absurd (omega arith)
-listOf-at (suc n) [] e = absurd (omega arith)
-listOf-at (suc n) (x ∷ f) e = ap (λ l. x ∷ l) (listOf-at n f (omega arith))
+listOf-at n f e = ext-getD (pos 0) _ f (length-listOf n (at f) ∙ sym e) (λ i l. at-listOf n (at f) i (omega (arith, length-listOf n (at f))))
 
 pub listOf-last : (n : ℕ) (g : ℕ → ℤ) → listOf (suc n) g ≡ listOf n g ++ (g n ∷ [])
 unfolding listOf

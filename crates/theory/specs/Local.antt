@@ -9,7 +9,7 @@ use native.Mathlib.Omega.{arith}
 use lib.ListN.{length}
 use lib.IntN.{ℤ, pos, natAbs, _-ℤ_, *ℤ-zero}
 use lib.Signed.{_<ℤ_}
-use borrow.Author.Tests.{le-leb, lt-leb}
+use borrow.Author.Tests.{le-leb, lt-leb, leb-true}
 use Rattle.algebra.specs.Order.{nonneg-pos, positive-pos}
 use Rattle.algebra.specs.Size.{natAbs-sub}
 use Rattle.meaning.specs.Extension.{at, IndexMap, ext}
@@ -29,6 +29,10 @@ near-yes ss n p h = le-leb _ _ h
 pub near-no : (ss : List Stage) (n p : ℕ) → reach ss < apart n p → near ss n p ≡ false
 unfolding near
 near-no ss n p h = lt-leb _ _ h
+
+pub near-true : (ss : List Stage) (n p : ℕ) → near ss n p ≡ true → apart n p ≤ reach ss
+unfolding near
+near-true ss n p h = leb-true _ _ h
 
 -- what reads p stands no nearer to n than p does
 pub weight-outside : {φ : IndexMap} → Nearness φ → (ss : List Stage) {N n : ℕ} → n < N → (p : ℕ) → reach ss < apart n p → weight φ ss N (pos n) p ≡ pos 0

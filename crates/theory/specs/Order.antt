@@ -4,15 +4,15 @@
 -- width-order, reach-order, divisor-order, convolve-order, kernel-order, result-order, results-order.
 use mathlib.Core.Path.{_≡_, refl, sym, _∙_, ap}
 use mathlib.Core.List.{List, [], _∷_, _++_, append-nil}
-use Prim.Native.Nat.{_+_}
-use native.Mathlib.Nat.{mul-left-comm}
+use Prim.Native.Nat.{ℕ, _+_}
+use native.Mathlib.Nat.{mul-one}
 use native.Mathlib.Omega.{arith}
 use lib.ListN.{length}
-use lib.IntN.{ℤ, pos}
+use lib.IntN.{ℤ, pos, natAbs}
 use Rattle.meaning.specs.Extension.{IndexMap, ext}
 use Rattle.meaning.specs.Kernel.{Stage, kernel, width, reach, tapSum, divisor}
 use Rattle.meaning.specs.Smoothing.{passAt, convolved, result, results}
-use Rattle.theory.specs.Convolution.{passAt-ext, passAt-swap, convolve-cons, kernel-append}
+use Rattle.theory.specs.Convolution.{passAt-ext, passAt-swap, convolve-cons, convolve-const, kernel-append}
 use Rattle.theory.specs.Lists.{listOf-ext}
 
 pub data Reordered : List Stage → List Stage → Type 0 where
@@ -33,26 +33,20 @@ pub append-order : (ss ts : List Stage) → Reordered (ss ++ ts) (ts ++ ss)
 append-order [] ts = rw (append-nil ts) (reordered ts)
 append-order (s ∷ ss) ts = then (keep s (append-order ss ts)) (sink s ts ss)
 
+-- a number that does not see two neighbours swapped
+number-order : (g : List Stage → ℕ) → ((s : Stage) (ss ts : List Stage) → g ss ≡ g ts → g (s ∷ ss) ≡ g (s ∷ ts)) → ((s t : Stage) (ss : List Stage) → g (s ∷ t ∷ ss) ≡ g (t ∷ s ∷ ss)) → {ss ts : List Stage} → Reordered ss ts → g ss ≡ g ts
+number-order g k w empty = refl
+number-order g k w (keep s o) = k s _ _ (number-order g k w o)
+number-order g k w (swap s t ss) = w s t ss
+number-order g k w (then o q) = number-order g k w o ∙ number-order g k w q
+
 pub width-order : {ss ts : List Stage} → Reordered ss ts → width ss ≡ width ts
 unfolding width
-width-order empty = refl
-width-order (keep s o) = rw (width-order o)
-width-order (swap s t ss) = omega arith
-width-order (then o q) = width-order o ∙ width-order q
+width-order o = number-order width (λ s ss ts e. omega arith) (λ s t ss. omega arith) o
 
 pub reach-order : {ss ts : List Stage} → Reordered ss ts → reach ss ≡ reach ts
 unfolding reach
-reach-order empty = refl
-reach-order (keep s o) = rw (reach-order o)
-reach-order (swap s t ss) = omega arith
-reach-order (then o q) = reach-order o ∙ reach-order q
-
-pub divisor-order : {ss ts : List Stage} → Reordered ss ts → divisor ss ≡ divisor ts
-unfolding divisor
-divisor-order empty = refl
-divisor-order (keep s o) = rw (divisor-order o)
-divisor-order (swap s t ss) = mul-left-comm (tapSum s) (tapSum t) (divisor ss)
-divisor-order (then o q) = divisor-order o ∙ divisor-order q
+reach-order o = number-order reach (λ s ss ts e. omega arith) (λ s t ss. omega arith) o
 
 pub convolve-order : {ss ts : List Stage} → Reordered ss ts → (e : ℤ → ℤ) (n : ℤ) → convolved ss e n ≡ convolved ts e n
 convolve-order empty e n = refl
@@ -62,6 +56,9 @@ convolve-order (swap s t ss) e n = two s t ∙ passAt-swap s t (convolved ss e) 
     two : (s t : Stage) → convolved (s ∷ t ∷ ss) e n ≡ passAt s (passAt t (convolved ss e)) n
     two s t = convolve-cons s (t ∷ ss) e n ∙ passAt-ext s (convolve-cons t ss e) n
 convolve-order (then o q) e n = convolve-order o e n ∙ convolve-order q e n
+
+pub divisor-order : {ss ts : List Stage} → Reordered ss ts → divisor ss ≡ divisor ts
+divisor-order {ss} {ts} o = sym (mul-one (divisor ss)) ∙ ap natAbs (sym (convolve-const ss (pos 1) (pos 0)) ∙ convolve-order o (λ x. pos 1) (pos 0) ∙ convolve-const ts (pos 1) (pos 0)) ∙ mul-one (divisor ts)
 
 pub kernel-order : {ss ts : List Stage} → Reordered ss ts → (m : ℤ) → kernel ss m ≡ kernel ts m
 kernel-order {ss} {ts} o m = alone ss ∙ convolve-order o (kernel []) m ∙ sym (alone ts)

@@ -9,14 +9,14 @@ use mathlib.Core.List.{List, [], _∷_, _++_}
 use Prim.Native.Nat.{ℕ, zero, suc, _<_}
 use native.Mathlib.Omega.{arith}
 use lib.ListN.{length, replicate}
-use lib.IntN.{ℤ, pos, negℤ, _-ℤ_, _*ℤ_}
+use lib.IntN.{ℤ, pos, negℤ, _-ℤ_, _*ℤ_, *ℤ-zero}
 use Rattle.algebra.specs.Within.{within-ext, within-neg}
 use Rattle.meaning.specs.Extension.{at, IndexMap, ext}
-use Rattle.meaning.specs.Kernel.{Stage, kernel}
+use Rattle.meaning.specs.Kernel.{Stage, kernel, divisor}
 use Rattle.meaning.specs.Smoothing.{convolved, result, results, passAt, pass}
 use Rattle.theory.specs.Kernel.{kernel-symmetric}
-use Rattle.theory.specs.Convolution.{passAt-ext, convolve-none, convolve-cons, convolve-append}
-use Rattle.theory.specs.Lists.{length-listOf, at-listOf, listOf-ext, listOf-at}
+use Rattle.theory.specs.Convolution.{passAt-ext, convolve-none, convolve-const, convolve-cons, convolve-append}
+use Rattle.theory.specs.Lists.{length-listOf, at-listOf, listOf-ext, listOf-at, at-past}
 use Rattle.theory.specs.Folding.{Folding, Follows, forward, backward}
 
 unfoldable pub repeated : ℕ → (List ℤ → List ℤ) → List ℤ → List ℤ
@@ -36,6 +36,10 @@ module _ (φ : IndexMap) where
   pub length-pass : (s : Stage) (f : List ℤ) → length (pass φ s f) ≡ length f
   unfolding pass
   length-pass s f = length-listOf (length f) _
+
+  pub at-pass : (s : Stage) (f : List ℤ) (n : ℕ) → n < length f → at (pass φ s f) n ≡ passAt s (ext φ f) (pos n)
+  unfolding pass
+  at-pass s f n h = at-listOf (length f) _ n h
 
   -- ---- at every whole n
   pub result-none : (f : List ℤ) (n : ℤ) → result φ [] f n ≡ ext φ f n
@@ -57,14 +61,20 @@ module _ (φ : IndexMap) where
       within-ext _ (λ m l. ap₂ (λ k i. k *ℤ at f i) (sym (kernel-symmetric ss m)) (h (negℤ m)))
       ∙ within-neg _ (λ m. kernel ss m *ℤ at f (φ (length f) (pos p -ℤ m)))
 
+  result-empty : (ss : List Stage) (n : ℤ) → result φ ss [] n ≡ pos 0
+  unfolding result ext
+  result-empty ss n = convolve-const ss (pos 0) n ∙ *ℤ-zero (pos (divisor ss))
+
 -- ---- the extension of the results
 module _ {φ : IndexMap} (F : Folding φ) where
-  pub result-fold : (ss : List Stage) (f : List ℤ) → 0 < length f → (n : ℤ) → result φ ss f n ≡ result φ ss f (pos (φ (length f) n))
-  result-fold ss f h n = follows φ ss f n _ (F .follows h n)
+  pub result-fold : (ss : List Stage) (f : List ℤ) (n : ℤ) → result φ ss f n ≡ result φ ss f (pos (φ (length f) n))
+  result-fold ss [] n = result-empty φ ss n ∙ sym (result-empty φ ss _)
+  result-fold ss (x ∷ f) n = follows φ ss (x ∷ f) n _ (F .follows (omega arith) n)
 
-  pub ext-results : (ss : List Stage) (f : List ℤ) → 0 < length f → (n : ℤ) → ext φ (results φ ss f) n ≡ result φ ss f n
+  pub ext-results : (ss : List Stage) (f : List ℤ) (n : ℤ) → ext φ (results φ ss f) n ≡ result φ ss f n
   unfolding ext
-  ext-results ss f h n = rw (length-results φ ss f) (at-results φ ss f _ (F .below h n) ∙ sym (result-fold ss f h n))
+  ext-results ss [] n = at-past (results φ ss []) _ (rw (length-results φ ss []) (omega arith)) ∙ sym (result-empty φ ss n)
+  ext-results ss (x ∷ f) n = rw (length-results φ ss (x ∷ f)) (at-results φ ss (x ∷ f) _ (F .below (omega arith) n) ∙ sym (result-fold ss (x ∷ f) n))
 
   -- ---- passes
   pub results-none : (f : List ℤ) → results φ [] f ≡ f
@@ -73,7 +83,7 @@ module _ {φ : IndexMap} (F : Folding φ) where
 
   pub results-cons : (s : Stage) (ss : List Stage) (f : List ℤ) → results φ (s ∷ ss) f ≡ pass φ s (results φ ss f)
   unfolding results pass
-  results-cons s ss f = rw (length-results φ ss f) (listOf-ext (length f) (λ n l. result-cons φ s ss f (pos n) ∙ passAt-ext s (λ x. sym (ext-results ss f (omega arith) x)) (pos n)))
+  results-cons s ss f = rw (length-results φ ss f) (listOf-ext (length f) (λ n l. result-cons φ s ss f (pos n) ∙ passAt-ext s (λ x. sym (ext-results ss f x)) (pos n)))
 
   pub results-append : (ss ts : List Stage) (f : List ℤ) → results φ (ss ++ ts) f ≡ results φ ss (results φ ts f)
   results-append [] ts f = sym (results-none (results φ ts f))

@@ -11,16 +11,14 @@ use native.Mathlib.Nat.{zero-mul, div-add-mod', mod-lt, div-lt-iff-lt-mul, mul-a
 use native.Mathlib.Omega.{arith}
 use lib.ListN.{length, length-append, List·getD-append}
 use lib.Seq.{getD-append-add, ext-getD}
-use lib.IntN.{ℤ, pos, _-ℤ_, _*ℤ_}
-use Rattle.algebra.specs.Ring.{ac, *ℤ-assoc}
+use lib.IntN.{ℤ, pos}
 use Rattle.algebra.specs.Size.{Abs}
-use Rattle.algebra.specs.Within.{within-ext, within-*, within-swap}
 use Rattle.meaning.specs.Extension.{at, IndexMap, ext}
-use Rattle.meaning.specs.Kernel.{Stage, kernel, divisor}
+use Rattle.meaning.specs.Kernel.{Stage, divisor}
 use Rattle.meaning.specs.Smoothing.{listOf, convolved, result, results, pass}
 use Rattle.meaning.specs.Picture.{cell, pixel, grid, picture, row, column, across, down}
 use Rattle.theory.specs.Folding.{Folding}
-use Rattle.theory.specs.Convolution.{convolve-ext}
+use Rattle.theory.specs.Convolution.{convolve-ext, convolve-swap}
 use Rattle.theory.specs.Lists.{length-listOf, at-listOf, listOf-ext, listOf-at, Sized, sized, sized-listOf}
 use Rattle.theory.specs.Passes.{length-results, at-results, results-none, results-cons}
 use Rattle.theory.specs.Sizes.{results-size}
@@ -78,13 +76,33 @@ sized-grid {M} W H g h = sized (grid W H g) (λ i l. go (place W H i (omega (ari
 abbrev pub Keeps : (List ℤ → List ℤ) → Type 0
 Keeps op = (f : List ℤ) → length (op f) ≡ length f
 
-length-row : (W : ℕ) (f : List ℤ) (y : ℕ) → length (row W f y) ≡ W
+pub length-row : (W : ℕ) (f : List ℤ) (y : ℕ) → length (row W f y) ≡ W
 unfolding row
 length-row W f y = length-listOf W _
 
-length-column : (W H : ℕ) (f : List ℤ) (x : ℕ) → length (column W H f x) ≡ H
+pub length-column : (W H : ℕ) (f : List ℤ) (x : ℕ) → length (column W H f x) ≡ H
 unfolding column
 length-column W H f x = length-listOf H _
+
+pub at-row : (W : ℕ) (f : List ℤ) (x y : ℕ) → x < W → at (row W f y) x ≡ cell W f x y
+unfolding row
+at-row W f x y h = at-listOf W _ x h
+
+pub at-column : (W H : ℕ) (f : List ℤ) (x y : ℕ) → y < H → at (column W H f x) y ≡ cell W f x y
+unfolding column
+at-column W H f x y h = at-listOf H _ y h
+
+pub length-across : (op : List ℤ → List ℤ) (W H : ℕ) (f : List ℤ) → length (across op W H f) ≡ H * W
+unfolding across
+length-across op W H f = length-grid W H _
+
+pub cell-across : (op : List ℤ → List ℤ) (W H : ℕ) (f : List ℤ) (x y : ℕ) → x < W → y < H → cell W (across op W H f) x y ≡ at (op (row W f y)) x
+unfolding across
+cell-across op W H f x y = cell-grid W H _ x y
+
+pub length-picture : (φ ψ : IndexMap) (hs vs : List Stage) (W H : ℕ) (f : List ℤ) → length (picture φ ψ hs vs W H f) ≡ H * W
+unfolding picture
+length-picture φ ψ hs vs W H f = length-grid W H _
 
 pub across-ext : (p q : List ℤ → List ℤ) (W H : ℕ) (f : List ℤ) → ((g : List ℤ) → length g ≡ W → p g ≡ q g) → across p W H f ≡ across q W H f
 unfolding across
@@ -134,26 +152,17 @@ module _ {φ : IndexMap} (F : Folding φ) where
 -- ---- rows first, columns first
 module _ {φ ψ : IndexMap} (F : Folding φ) (G : Folding ψ) (hs vs : List Stage) (W H : ℕ) (f : List ℤ) where
   pub rows-first : down (results ψ vs) W H (across (results φ hs) W H f) ≡ picture φ ψ hs vs W H f
-  unfolding down across row column picture pixel convolved
+  unfolding down across row column picture pixel
   rows-first = grid-ext W H (λ x y hx hy.
       at-line G vs H _ y hy
-      ∙ within-ext _ (λ j l.
-      ap (λ z. kernel vs j *ℤ z) (cell-grid W H _ x (ψ H (pos y -ℤ j)) hx (G .below (omega arith) (pos y -ℤ j)) ∙ at-line F hs W _ x hx)
-      ∙ sym (within-* _ (kernel vs j) _)
-      ∙ within-ext _ (λ i k. regroup (kernel hs i) (kernel vs j) (cell W f (φ W (pos x -ℤ i)) (ψ H (pos y -ℤ j)))))
-      ∙ within-swap _ _ (λ j i. kernel hs i *ℤ kernel vs j *ℤ cell W f (φ W (pos x -ℤ i)) (ψ H (pos y -ℤ j))))
-    where
-      regroup : (a b c : ℤ) → b *ℤ (a *ℤ c) ≡ a *ℤ b *ℤ c
-      regroup a b c = simp ac
+      ∙ convolve-ext vs (λ j. cell-grid W H _ x (ψ H j) hx (G .below (omega arith) j) ∙ at-line F hs W _ x hx) (pos y)
+      ∙ convolve-swap vs hs (λ j i. cell W f (φ W i) (ψ H j)) (pos y) (pos x))
 
   pub columns-first : across (results φ hs) W H (down (results ψ vs) W H f) ≡ picture φ ψ hs vs W H f
-  unfolding down across row column picture pixel convolved
+  unfolding down across row column picture pixel
   columns-first = grid-ext W H (λ x y hx hy.
       at-line F hs W _ x hx
-      ∙ within-ext _ (λ i l.
-      ap (λ z. kernel hs i *ℤ z) (cell-grid W H _ (φ W (pos x -ℤ i)) y (F .below (omega arith) (pos x -ℤ i)) hy ∙ at-line G vs H _ y hy)
-      ∙ sym (within-* _ (kernel hs i) _)
-      ∙ within-ext _ (λ j k. sym (*ℤ-assoc (kernel hs i) (kernel vs j) (cell W f (φ W (pos x -ℤ i)) (ψ H (pos y -ℤ j)))))))
+      ∙ convolve-ext hs (λ i. cell-grid W H _ (φ W i) y (F .below (omega arith) i) hy ∙ at-line G vs H _ y hy) (pos x))
 
   pub either-first : down (results ψ vs) W H (across (results φ hs) W H f) ≡ across (results φ hs) W H (down (results ψ vs) W H f)
   either-first = rows-first ∙ sym columns-first

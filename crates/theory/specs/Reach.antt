@@ -15,39 +15,10 @@ use Rattle.algebra.specs.Order.{nonneg-*, positive-pos, positive-*}
 use Rattle.algebra.specs.Within.{sumWithin, Beyond, within-ext, within-none, within-positive}
 use Rattle.meaning.specs.Kernel.{Stage, tap, kernel, width, tapReach, reach}
 use Rattle.meaning.specs.Smoothing.{convolved}
-use Rattle.theory.specs.Kernel.{tap-inside, tap-edge, tap-nonneg, kernel-symmetric, kernel-nonneg, far}
+use Rattle.theory.specs.Kernel.{Edge, plain, edged, edge, tapReach-width, tap-inside, tap-edge, tap-nonneg, kernel-symmetric, kernel-nonneg, reach-width, kernel-outside}
 use Rattle.theory.specs.Stages.{Positive, none, _and_}
 
 -- ---- one pass
-data Edge (s : Stage) : Type 0 where
-  plain : s .edge ≡ 0 → tapReach s ≡ s .radius → Edge s
-  edged : 0 < s .edge → tapReach s ≡ suc (s .radius) → Edge s
-
-edge : (s : Stage) → Edge s
-edge s = go (ℕ-discrete (s .edge) 0)
-  where
-    go : Dec (s .edge ≡ 0) → Edge s
-    go (yes e) = plain e (rw (eq-eqb _ _ e))
-    go (no e) = edged (omega arith) (rw (ne-eqb _ _ e))
-
-pub tapReach-width : (s : Stage) → tapReach s ≤ suc (s .radius)
-tapReach-width s = go (edge s)
-  where
-    go : Edge s → tapReach s ≤ suc (s .radius)
-    go (plain e i) = omega arith
-    go (edged e i) = omega arith
-
-pub tap-outside : (s : Stage) → Beyond (tapReach s) (tap s)
-tap-outside s m h = go (edge s) (ℕ-discrete (natAbs m) (suc (s .radius)))
-  where
-    outside : suc (s .radius) < natAbs m → tap s m ≡ pos 0
-    outside l = unfold tap in rw (lt-leb (natAbs m) (s .radius) (omega arith), ne-eqb (natAbs m) (suc (s .radius)) (omega arith))
-
-    go : Edge s → Dec (natAbs m ≡ suc (s .radius)) → tap s m ≡ pos 0
-    go (plain e i) (yes j) = tap-edge s m j ∙ ap pos e
-    go (plain e i) (no j) = outside (omega arith)
-    go (edged e i) d = outside (omega arith)
-
 pub tap-positive : (s : Stage) → 0 < s .inner → (m : ℤ) → natAbs m ≤ tapReach s → pos 0 <ℤ tap s m
 tap-positive s b m h = go (edge s) (decLe (natAbs m) (s .radius))
   where
@@ -57,20 +28,6 @@ tap-positive s b m h = go (edge s) (decLe (natAbs m) (s .radius))
     go (edged e i) (no l) = rw (tap-edge s m (omega arith)) (positive-pos e)
 
 -- ---- all passes
-pub reach-width : (ss : List Stage) → reach ss ≤ width ss
-unfolding reach width
-reach-width [] = le-refl 0
-reach-width (s ∷ ss) = omega (arith, reach-width ss, tapReach-width s)
-
-pub kernel-outside : (ss : List Stage) → Beyond (reach ss) (kernel ss)
-unfolding kernel reach
-kernel-outside [] m h = rw (ne-eqb (natAbs m) 0 (omega arith))
-kernel-outside (s ∷ ss) m h = within-none _ (λ j l. term (kernel-outside ss) j (decLe (natAbs j) (tapReach s)))
-  where
-    term : Beyond (reach ss) (kernel ss) → (j : ℤ) → Dec (natAbs j ≤ tapReach s) → tap s j *ℤ kernel ss (m -ℤ j) ≡ pos 0
-    term ih j (yes l) = *ℤ-zero-r (tap s j) (ih (m -ℤ j) (far m j h l))
-    term ih j (no l) = *ℤ-zero-l (kernel ss (m -ℤ j)) (tap-outside s j (omega arith))
-
 -- at x the pass in front takes what it can, the others the rest
 right : {ss : List Stage} → Positive ss → (x : ℕ) → x ≤ reach ss → pos 0 <ℤ kernel ss (pos x)
 unfolding kernel reach

@@ -1,8 +1,8 @@
 -- How large results grow: samples of size up to M give results of size up to M times the divisor, and so after every pass.
 -- Laws: passAt-size, convolve-size; ext-size, pass-size; result-size, results-size; part-size (after some of the passes).
-use mathlib.Core.List.{List, _++_}
+use mathlib.Core.List.{List, [], _∷_, _++_}
 use Prim.Native.Nat.{ℕ, suc, _*_}
-use native.Mathlib.Nat.{mul-comm, mul-le-mul-left}
+use native.Mathlib.Nat.{mul-one, mul-comm, mul-le-mul-left}
 use lib.ListN.{length}
 use lib.IntN.{ℤ, pos, _-ℤ_}
 use Rattle.algebra.specs.Size.{Abs}
@@ -10,19 +10,19 @@ use Rattle.algebra.specs.Within.{within-weighted}
 use Rattle.meaning.specs.Extension.{at, IndexMap, ext}
 use Rattle.meaning.specs.Kernel.{Stage, tap, kernel, width, tapSum, divisor}
 use Rattle.meaning.specs.Smoothing.{convolved, result, results, passAt, pass}
-use Rattle.theory.specs.Kernel.{tap-nonneg, kernel-nonneg}
-use Rattle.theory.specs.Convolution.{tap-sum, kernel-sum}
+use Rattle.theory.specs.Kernel.{kernel-nonneg}
+use Rattle.theory.specs.Convolution.{kernel-sum, passAt-one}
 use Rattle.theory.specs.Stages.{Positive, divisor-part}
 use Rattle.theory.specs.Lists.{Sized, sized-weaken, sized-listOf}
 
 -- ---- of a row
-pub passAt-size : (s : Stage) {M : ℕ} {e : ℤ → ℤ} → ((n : ℤ) → Abs (e n) M) → (n : ℤ) → Abs (passAt s e n) (M * tapSum s)
-unfolding passAt
-passAt-size s {M} {e} h n = rw (mul-comm M (tapSum s)) (rw (tap-sum s) at (within-weighted (suc (s .radius)) M (tap s) (λ j. e (n -ℤ j)) (λ j l. tap-nonneg s j) (λ j l. h (n -ℤ j))))
-
 pub convolve-size : (ss : List Stage) {M : ℕ} {e : ℤ → ℤ} → ((n : ℤ) → Abs (e n) M) → (n : ℤ) → Abs (convolved ss e n) (M * divisor ss)
 unfolding convolved
 convolve-size ss {M} {e} h n = rw (mul-comm M (divisor ss)) (rw (kernel-sum ss) at (within-weighted (width ss) M (kernel ss) (λ m. e (n -ℤ m)) (λ m l. kernel-nonneg ss m) (λ m l. h (n -ℤ m))))
+
+pub passAt-size : (s : Stage) {M : ℕ} {e : ℤ → ℤ} → ((n : ℤ) → Abs (e n) M) → (n : ℤ) → Abs (passAt s e n) (M * tapSum s)
+unfolding divisor
+passAt-size s {M} {e} h n = rw (← passAt-one s e n, ← mul-one (tapSum s)) (convolve-size (s ∷ []) h n)
 
 -- ---- of a series
 module _ (φ : IndexMap) {M : ℕ} {f : List ℤ} (h : Sized M f) where

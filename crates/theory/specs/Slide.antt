@@ -10,7 +10,7 @@ use mathlib.Core.List.{List, _∷_, _++_}
 use Prim.Native.Nat.{ℕ, suc, _+_, _*_, _≤_, _<_}
 use native.Mathlib.Nat.{le-mul-of-pos-right, mul-le-mul-left}
 use native.Mathlib.Omega.{arith}
-use lib.IntN.{ℤ, pos, predℤ, _+ℤ_, _-ℤ_, _*ℤ_, -ℤ-one, +ℤ-negℤ-cancel}
+use lib.IntN.{ℤ, pos, predℤ, sucℤ, _+ℤ_, _-ℤ_, _*ℤ_, -ℤ-one, +ℤ-one, +ℤ-negℤ-cancel}
 use Rattle.algebra.specs.Difference.{rep, diff, linear}
 use Rattle.algebra.specs.Expression.{_⊕_, _⊝_, _⊗_, con}
 use Rattle.algebra.specs.Solver.{ring, _≗_}
@@ -34,31 +34,31 @@ module _ (e : ℤ → ℤ) where
   unfolding window
   window-range r n = within-interval r n e
 
-  pub window-slide : (r : ℕ) (n : ℤ) → window e r (n +ℤ pos 1) +ℤ e (n -ℤ pos r) ≡ window e r n +ℤ e (n +ℤ pos (suc r))
+  pub window-slide : (r : ℕ) (n : ℤ) → window e r (sucℤ n) +ℤ e (n -ℤ pos r) ≡ window e r n +ℤ e (n +ℤ pos (suc r))
   unfolding window
   window-slide r n = ap (λ z. z +ℤ e (n -ℤ pos r)) (within-ext r (λ j l. ap e (next n j))) ∙ within-step r (λ j. e (n -ℤ j))
     where
-      next : (n j : ℤ) → n +ℤ pos 1 -ℤ j ≡ n -ℤ predℤ j
-      next n j = ring 2 (λ n j. n ⊕ con (pos 1) ⊝ j ≗ n ⊝ (j ⊝ con (pos 1))) refl n j ∙ ap (λ z. n -ℤ z) (-ℤ-one j)
+      next : (n j : ℤ) → sucℤ n -ℤ j ≡ n -ℤ predℤ j
+      next n j = rw (← +ℤ-one n, ← -ℤ-one j) (ring 2 (λ n j. n ⊕ con (pos 1) ⊝ j ≗ n ⊝ (j ⊝ con (pos 1))) refl n j)
 
   pub passAt-window : (s : Stage) (n : ℤ) → passAt s e n ≡ pos (s .inner) *ℤ window e (s .radius) n +ℤ pos (s .edge) *ℤ (e (n -ℤ pos (suc (s .radius))) +ℤ e (n +ℤ pos (suc (s .radius))))
   unfolding passAt window
   passAt-window s n = tap-split s (λ j. e (n -ℤ j))
 
   -- what enters less what leaves, on either side of the edge
-  pub passAt-slide : (s : Stage) (n : ℤ) → passAt s e (n +ℤ pos 1) ≡ passAt s e n
+  pub passAt-slide : (s : Stage) (n : ℤ) → passAt s e (sucℤ n) ≡ passAt s e n
       +ℤ pos (s .edge) *ℤ (e (n +ℤ pos (suc (suc (s .radius)))) -ℤ e (n -ℤ pos (suc (s .radius))))
       +ℤ (pos (s .inner) -ℤ pos (s .edge)) *ℤ (e (n +ℤ pos (suc (s .radius))) -ℤ e (n -ℤ pos (s .radius)))
   passAt-slide s n =
       let r = s .radius in
-      rw (passAt-window s (n +ℤ pos 1), passAt-window s n, low n r, high n r)
-      (moved (pos (s .inner)) (pos (s .edge)) (window e r n) (e (n -ℤ pos r)) (e (n +ℤ pos (suc r))) (e (n -ℤ pos (suc r))) (e (n +ℤ pos (suc (suc r)))) (window e r (n +ℤ pos 1)) (window-slide r n))
+      rw (passAt-window s (sucℤ n), passAt-window s n, low n r, high n r)
+      (moved (pos (s .inner)) (pos (s .edge)) (window e r n) (e (n -ℤ pos r)) (e (n +ℤ pos (suc r))) (e (n -ℤ pos (suc r))) (e (n +ℤ pos (suc (suc r)))) (window e r (sucℤ n)) (window-slide r n))
     where
-      low : (n : ℤ) (r : ℕ) → n +ℤ pos 1 -ℤ pos (suc r) ≡ n -ℤ pos r
-      low n r = rw (rep n) (simp diff (omega linear))
+      low : (n : ℤ) (r : ℕ) → sucℤ n -ℤ pos (suc r) ≡ n -ℤ pos r
+      low n r = rw (← +ℤ-one n, rep n) (simp diff (omega linear))
 
-      high : (n : ℤ) (r : ℕ) → n +ℤ pos 1 +ℤ pos (suc r) ≡ n +ℤ pos (suc (suc r))
-      high n r = rw (rep n) (simp diff (omega linear))
+      high : (n : ℤ) (r : ℕ) → sucℤ n +ℤ pos (suc r) ≡ n +ℤ pos (suc (suc r))
+      high n r = rw (← +ℤ-one n, rep n) (simp diff (omega linear))
 
       moved : (b a w lo hi x y w′ : ℤ) → w′ +ℤ lo ≡ w +ℤ hi → b *ℤ w′ +ℤ a *ℤ (lo +ℤ y) ≡ b *ℤ w +ℤ a *ℤ (x +ℤ hi) +ℤ a *ℤ (y -ℤ x) +ℤ (b -ℤ a) *ℤ (hi -ℤ lo)
       moved b a w lo hi x y w′ h =
@@ -77,6 +77,7 @@ pub record Step (s : Stage) (e : ℤ → ℤ) (B : ℕ) : Type 0 where
   pub change : (x y : ℤ) → Abs (e x -ℤ e y) B
   pub outer : (x y : ℤ) → Abs (pos (s .edge) *ℤ (e x -ℤ e y)) B
   pub inside : (x y : ℤ) → Abs ((pos (s .inner) -ℤ pos (s .edge)) *ℤ (e x -ℤ e y)) B
+  pub written : (n : ℤ) → Abs (passAt s e n) B
   pub between : (n x y : ℤ) → Abs (passAt s e n +ℤ pos (s .edge) *ℤ (e x -ℤ e y)) B
 
 module _ (s : Stage) {M : ℕ} {e : ℤ → ℤ} (h : (n : ℤ) → Abs (e n) M) where
@@ -98,10 +99,11 @@ module _ (s : Stage) {M : ℕ} {e : ℤ → ℤ} (h : (n : ℤ) → Abs (e n) M)
         change = λ x y. abs-weaken (abs-- (h x) (h y)) (omega (arith, one));
         outer = λ x y. abs-weaken (abs-* (abs-self (pos (s .edge))) (abs-- (h x) (h y))) (omega arith);
         inside = λ x y. abs-weaken (abs-* (abs-- (abs-self (pos (s .inner))) (abs-self (pos (s .edge)))) (abs-- (h x) (h y))) (omega arith);
+        written = λ n. abs-weaken (passAt-size s h n) (omega arith);
         between = λ n x y. abs-weaken (abs-+ (passAt-size s h n) (abs-* (abs-self (pos (s .edge))) (abs-- (h x) (h y)))) (omega arith);
       }
 
 -- the pass of s after those of ts, with those of ss to come
-pub step-part : (φ : IndexMap) {M : ℕ} {f : List ℤ} → Sized M f → {ss : List Stage} → Positive ss → (s : Stage) → 0 < s .inner → (ts : List Stage) → Step s (ext φ (results φ ts f)) (2 * (M * divisor (ss ++ (s ∷ ts))))
+pub step-part : (φ : IndexMap) {M : ℕ} {f : List ℤ} → Sized M f → {ss : List Stage} → Positive ss → (s : Stage) → 0 < s .inner → (ts : List Stage) {B : ℕ} → 2 * (M * divisor (ss ++ (s ∷ ts))) ≤ B → Step s (ext φ (results φ ts f)) B
 unfolding divisor
-step-part φ {M} h p s b ts = step-size s (ext-size φ (results-size φ h ts)) b (omega (arith, mul-le-mul-left M (divisor-part (s ∷ ts) p)))
+step-part φ {M} h p s b ts l = step-size s (ext-size φ (results-size φ h ts)) b (omega (arith, mul-le-mul-left M (divisor-part (s ∷ ts) p)))
