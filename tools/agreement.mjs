@@ -186,7 +186,7 @@ const OPENED = {
   'lib.Count': 'trailingZeros',
   'Rattle.algebra.specs.Within': 'sumWithin',
   'Rattle.meaning.specs.Extension': 'emod reflect fold ext',
-  'Rattle.meaning.specs.Kernel': 'tap kernel width reach tapSum divisor',
+  'Rattle.meaning.specs.Kernel': 'tap passAt kernel width reach tapSum divisor',
   'Rattle.meaning.specs.Smoothing': 'listOf convolved result results weight near',
   'Rattle.meaning.specs.Picture': 'pixel grid picture',
   'Rattle.meaning.specs.Refusals': 'firstOf firstWhere rowAt some planRows sizeRows ifDone',

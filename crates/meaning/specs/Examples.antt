@@ -11,7 +11,7 @@ use lib.ListN.{set}
 use lib.IntN.{ℤ, pos, negℤ}
 use Rattle.algebra.specs.Within.{sumWithin}
 use Rattle.meaning.specs.Extension.{emod, reflect, fold, ext}
-use Rattle.meaning.specs.Kernel.{Stage, plan, tap, kernel, width, reach, tapSum, divisor}
+use Rattle.meaning.specs.Kernel.{Stage, plan, tap, passAt, kernel, width, reach, tapSum, divisor}
 use Rattle.meaning.specs.Smoothing.{listOf, convolved, result, results, weight, near}
 use Rattle.meaning.specs.Picture.{pixel, grid, picture}
 use Rattle.meaning.specs.Refusals.{Answer, firstOf, firstWhere, rowAt, some, planRows, sizeRows, commonRows, seriesOf, ifDone, zeros}
@@ -96,7 +96,7 @@ data Every : List Example → Type 0 where
   _and_ : {e : Example} {es : List Example} → Holds e → Every es → Every (e ∷ es)
 
 examples-hold : Every examples
-unfolding examples sumWithin emod reflect fold ext tap kernel width reach tapSum divisor listOf convolved result results weight near pixel grid picture
+unfolding examples sumWithin emod reflect fold ext tap passAt kernel width reach tapSum divisor listOf convolved result results weight near pixel grid picture
     firstOf firstWhere rowAt some planRows sizeRows ifDone nearest outputRows converted smoothRows smoothed gained editRows countWhere changed editSeries
     largest radiusFor edgeFor planFor bytes number sampleAt begins reading readRecord text digits decimal firstLine resultLines report program
 examples-hold =

@@ -2,6 +2,7 @@
 --   Stage          radius, inner weight and edge weight of one pass
 --   plan r b a K   document 01's plan (r, b, a, K): K equal stages
 --   tap s m        weight of offset m in one pass of stage s; 0 beyond radius + 1
+--   passAt s e n   the taps of stage s over a row e without ends, at n
 --   kernel ss m    weight of offset m after all of ss; of no stages, 1 at 0
 --   width ss       no weight lies farther out than this
 --   tapReach s     how far a sample is felt after one pass;  reach ss  after all
@@ -27,10 +28,13 @@ plan r b a K = replicate K (record { radius = r; inner = b; edge = a })
 unfoldable pub tap : Stage → ℤ → ℤ
 tap s m = pos (cond (leb (natAbs m) (s .radius)) (s .inner) (cond (eqb (natAbs m) (suc (s .radius))) (s .edge) 0))
 
+unfoldable pub passAt : Stage → (ℤ → ℤ) → ℤ → ℤ
+passAt s e n = sumWithin (suc (s .radius)) (λ j. tap s j *ℤ e (n -ℤ j))
+
 -- "The K-fold kernel is the tap row convolved with itself to K factors"
 unfoldable pub kernel : List Stage → ℤ → ℤ
 kernel [] m = pos (cond (eqb (natAbs m) 0) 1 0)
-kernel (s ∷ ss) m = sumWithin (suc (s .radius)) (λ j. tap s j *ℤ kernel ss (m -ℤ j))
+kernel (s ∷ ss) m = passAt s (kernel ss) m
 
 unfoldable pub width : List Stage → ℕ
 width [] = 0

@@ -3,8 +3,8 @@
 --   convolved ss e n     the kernel of ss over a row e without ends, at n
 --   result φ ss f n      the result at a whole n
 --   results φ ss f       those of 0 .. N - 1
---   passAt s e n         the taps of one pass over e, at n;  pass φ s f  over a series. No call's outcome is said by these:
---                        they are what code does, K times, and that results come out is a law
+--   pass φ s f           the series after one pass of stage s. No call's outcome is said by it: it is what code does, K times,
+--                        and that results come out is a law
 --   reads φ N p x        1 where the extension of N samples reads sample p at x, else 0
 --   weight φ ss N n p    how much of sample p of N the result at n holds
 --   apart n p            how far n is from p
@@ -17,7 +17,7 @@ use lib.ListN.{length}
 use lib.IntN.{ℤ, pos, _-ℤ_, _*ℤ_}
 use Rattle.algebra.specs.Within.{sumWithin}
 use Rattle.meaning.specs.Extension.{IndexMap, ext}
-use Rattle.meaning.specs.Kernel.{Stage, tap, kernel, width, reach}
+use Rattle.meaning.specs.Kernel.{Stage, passAt, kernel, width, reach}
 
 unfoldable pub listOf : ℕ → (ℕ → ℤ) → List ℤ
 listOf zero g = []
@@ -32,9 +32,6 @@ result φ ss f n = convolved ss (ext φ f) n
 
 unfoldable pub results : IndexMap → List Stage → List ℤ → List ℤ
 results φ ss f = listOf (length f) (λ n. result φ ss f (pos n))
-
-unfoldable pub passAt : Stage → (ℤ → ℤ) → ℤ → ℤ
-passAt s e n = sumWithin (suc (s .radius)) (λ j. tap s j *ℤ e (n -ℤ j))
 
 unfoldable pub pass : IndexMap → Stage → List ℤ → List ℤ
 pass φ s f = listOf (length f) (λ n. passAt s (ext φ f) (pos n))

@@ -1,6 +1,6 @@
 -- The taps of a pass, and the kernel of all passes, over a row e without ends.
--- Laws: passAt-ext, passAt-const, tap-sum, passAt-swap; convolve-ext, convolve-none, convolve-cons (a stage in front is one pass more), convolve-append;
--- convolve-const, convolve-+, convolve-*, convolve-sum, convolve-nonneg;
+-- Laws: passAt-ext, passAt-const, tap-sum, passAt-swap; convolved-ext, convolved-none, convolved-cons (a stage in front is one pass more), convolved-append;
+-- convolved-const, convolved-+, convolved-*, convolved-sum, convolved-nonneg;
 -- kernel-append (of stages one after the other: the two kernels' convolution), kernel-sum.
 use mathlib.Core.Path.{_≡_, sym, _∙_, ap, ap₂}
 use mathlib.Core.List.{List, [], _∷_, _++_}
@@ -13,8 +13,8 @@ use Rattle.algebra.specs.Ring.{ac, *ℤ-idl, *ℤ-idr, *ℤ-assoc, *ℤ-left-co
 use Rattle.algebra.specs.Order.{nonneg-*}
 use Rattle.algebra.specs.Sum.{sum, sum-*}
 use Rattle.algebra.specs.Within.{sumWithin, beyond-*, within-ext, within-const, within-+, within-*, within-swap, within-sum, within-neg, within-shift, within-nonneg}
-use Rattle.meaning.specs.Kernel.{Stage, tap, kernel, width, tapSum, divisor}
-use Rattle.meaning.specs.Smoothing.{passAt, convolved}
+use Rattle.meaning.specs.Kernel.{Stage, tap, kernel, width, tapSum, divisor, passAt}
+use Rattle.meaning.specs.Smoothing.{convolved}
 use Rattle.theory.specs.Kernel.{tap-split, kernel-cons, kernel-symmetric, kernel-nonneg, kernel-beyond}
 
 -- ---- one pass
@@ -40,17 +40,17 @@ passAt-swap s t e n =
     sub-comm n i j = simp ac
 
 -- ---- stages one after the other
-pub convolve-ext : (ss : List Stage) {e g : ℤ → ℤ} → ((x : ℤ) → e x ≡ g x) → (n : ℤ) → convolved ss e n ≡ convolved ss g n
+pub convolved-ext : (ss : List Stage) {e g : ℤ → ℤ} → ((x : ℤ) → e x ≡ g x) → (n : ℤ) → convolved ss e n ≡ convolved ss g n
 unfolding convolved
-convolve-ext ss h n = within-ext _ (λ m l. ap (λ z. kernel ss m *ℤ z) (h (n -ℤ m)))
+convolved-ext ss h n = within-ext _ (λ m l. ap (λ z. kernel ss m *ℤ z) (h (n -ℤ m)))
 
-pub convolve-none : (e : ℤ → ℤ) (n : ℤ) → convolved [] e n ≡ e n
+pub convolved-none : (e : ℤ → ℤ) (n : ℤ) → convolved [] e n ≡ e n
 unfolding convolved width kernel sumWithin
-convolve-none e n = *ℤ-idl (e (n -ℤ pos 0)) ∙ ap e (+ℤ-idr n)
+convolved-none e n = *ℤ-idl (e (n -ℤ pos 0)) ∙ ap e (+ℤ-idr n)
 
 module _ (s : Stage) (ss : List Stage) (e : ℤ → ℤ) (n : ℤ) where
   inside : (m : ℤ) → kernel (s ∷ ss) m *ℤ e (n -ℤ m) ≡ sumWithin (suc (s .radius)) (λ j. tap s j *ℤ (kernel ss (m -ℤ j) *ℤ e (n -ℤ m)))
-  unfolding kernel
+  unfolding kernel passAt
   inside m = *ℤ-comm (kernel (s ∷ ss) m) (e (n -ℤ m)) ∙ sym (within-* _ (e (n -ℤ m)) _) ∙ within-ext _ (λ j l. simp ac)
 
   moved : (j : ℤ) → natAbs j ≤ suc (s .radius) → sumWithin (width (s ∷ ss)) (λ m. kernel ss (m -ℤ j) *ℤ e (n -ℤ m)) ≡ convolved ss e (n -ℤ j)
@@ -62,57 +62,57 @@ module _ (s : Stage) (ss : List Stage) (e : ℤ → ℤ) (n : ℤ) where
       back : (n m j : ℤ) → n -ℤ m ≡ n -ℤ j -ℤ (m -ℤ j)
       back n m j = rw (rep n, rep m, rep j) (simp diff (omega linear))
 
-  pub convolve-cons : convolved (s ∷ ss) e n ≡ passAt s (convolved ss e) n
+  pub convolved-cons : convolved (s ∷ ss) e n ≡ passAt s (convolved ss e) n
   unfolding convolved passAt
-  convolve-cons =
+  convolved-cons =
       within-ext _ (λ m l. inside m)
       ∙ within-swap _ _ (λ m j. tap s j *ℤ (kernel ss (m -ℤ j) *ℤ e (n -ℤ m)))
       ∙ within-ext _ (λ j l. within-* _ (tap s j) (λ m. kernel ss (m -ℤ j) *ℤ e (n -ℤ m)) ∙ ap (λ z. tap s j *ℤ z) (moved j l))
 
 -- one stage is one pass
 pub passAt-one : (s : Stage) (e : ℤ → ℤ) (n : ℤ) → convolved (s ∷ []) e n ≡ passAt s e n
-passAt-one s e n = convolve-cons s [] e n ∙ passAt-ext s (convolve-none e) n
+passAt-one s e n = convolved-cons s [] e n ∙ passAt-ext s (convolved-none e) n
 
-pub convolve-append : (ss ts : List Stage) (e : ℤ → ℤ) (n : ℤ) → convolved (ss ++ ts) e n ≡ convolved ss (convolved ts e) n
-convolve-append [] ts e n = sym (convolve-none (convolved ts e) n)
-convolve-append (s ∷ ss) ts e n = convolve-cons s (ss ++ ts) e n ∙ passAt-ext s (convolve-append ss ts e) n ∙ sym (convolve-cons s ss (convolved ts e) n)
+pub convolved-append : (ss ts : List Stage) (e : ℤ → ℤ) (n : ℤ) → convolved (ss ++ ts) e n ≡ convolved ss (convolved ts e) n
+convolved-append [] ts e n = sym (convolved-none (convolved ts e) n)
+convolved-append (s ∷ ss) ts e n = convolved-cons s (ss ++ ts) e n ∙ passAt-ext s (convolved-append ss ts e) n ∙ sym (convolved-cons s ss (convolved ts e) n)
 
 pub kernel-append : (ss ts : List Stage) (m : ℤ) → kernel (ss ++ ts) m ≡ convolved ss (kernel ts) m
-kernel-append [] ts m = sym (convolve-none (kernel ts) m)
-kernel-append (s ∷ ss) ts m = kernel-cons s (ss ++ ts) m ∙ passAt-ext s (kernel-append ss ts) m ∙ sym (convolve-cons s ss (kernel ts) m)
+kernel-append [] ts m = sym (convolved-none (kernel ts) m)
+kernel-append (s ∷ ss) ts m = kernel-cons s (ss ++ ts) m ∙ passAt-ext s (kernel-append ss ts) m ∙ sym (convolved-cons s ss (kernel ts) m)
 
 -- ---- linear
-pub convolve-const : (ss : List Stage) (c n : ℤ) → convolved ss (λ x. c) n ≡ pos (divisor ss) *ℤ c
+pub convolved-const : (ss : List Stage) (c n : ℤ) → convolved ss (λ x. c) n ≡ pos (divisor ss) *ℤ c
 unfolding divisor
-convolve-const [] c n = convolve-none (λ x. c) n ∙ sym (*ℤ-idl c)
-convolve-const (s ∷ ss) c n =
-    convolve-cons s ss (λ x. c) n ∙ passAt-ext s (convolve-const ss c) n ∙ passAt-const s (pos (divisor ss) *ℤ c) n
+convolved-const [] c n = convolved-none (λ x. c) n ∙ sym (*ℤ-idl c)
+convolved-const (s ∷ ss) c n =
+    convolved-cons s ss (λ x. c) n ∙ passAt-ext s (convolved-const ss c) n ∙ passAt-const s (pos (divisor ss) *ℤ c) n
     ∙ sym (*ℤ-assoc (pos (tapSum s)) (pos (divisor ss)) c)
 
 pub kernel-sum : (ss : List Stage) → sumWithin (width ss) (kernel ss) ≡ pos (divisor ss)
-kernel-sum ss = within-ext _ (λ m l. sym (*ℤ-idr (kernel ss m))) ∙ unfold convolved in convolve-const ss (pos 1) (pos 0) ∙ *ℤ-idr (pos (divisor ss))
+kernel-sum ss = within-ext _ (λ m l. sym (*ℤ-idr (kernel ss m))) ∙ unfold convolved in convolved-const ss (pos 1) (pos 0) ∙ *ℤ-idr (pos (divisor ss))
 
-pub convolve-+ : (ss : List Stage) (e g : ℤ → ℤ) (n : ℤ) → convolved ss (λ x. e x +ℤ g x) n ≡ convolved ss e n +ℤ convolved ss g n
+pub convolved-+ : (ss : List Stage) (e g : ℤ → ℤ) (n : ℤ) → convolved ss (λ x. e x +ℤ g x) n ≡ convolved ss e n +ℤ convolved ss g n
 unfolding convolved
-convolve-+ ss e g n = within-ext _ (λ m l. *ℤ-+ℤ (kernel ss m) (e (n -ℤ m)) (g (n -ℤ m))) ∙ within-+ _ _ _
+convolved-+ ss e g n = within-ext _ (λ m l. *ℤ-+ℤ (kernel ss m) (e (n -ℤ m)) (g (n -ℤ m))) ∙ within-+ _ _ _
 
-pub convolve-* : (ss : List Stage) (c : ℤ) (e : ℤ → ℤ) (n : ℤ) → convolved ss (λ x. c *ℤ e x) n ≡ c *ℤ convolved ss e n
+pub convolved-* : (ss : List Stage) (c : ℤ) (e : ℤ → ℤ) (n : ℤ) → convolved ss (λ x. c *ℤ e x) n ≡ c *ℤ convolved ss e n
 unfolding convolved
-convolve-* ss c e n = within-ext _ (λ m l. *ℤ-left-comm (kernel ss m) c (e (n -ℤ m))) ∙ within-* _ c _
+convolved-* ss c e n = within-ext _ (λ m l. *ℤ-left-comm (kernel ss m) c (e (n -ℤ m))) ∙ within-* _ c _
 
-pub convolve-sum : (ss : List Stage) (N : ℕ) (g : ℕ → ℤ → ℤ) (n : ℤ) → convolved ss (λ x. sum N (λ p. g p x)) n ≡ sum N (λ p. convolved ss (g p) n)
+pub convolved-sum : (ss : List Stage) (N : ℕ) (g : ℕ → ℤ → ℤ) (n : ℤ) → convolved ss (λ x. sum N (λ p. g p x)) n ≡ sum N (λ p. convolved ss (g p) n)
 unfolding convolved
-convolve-sum ss N g n = within-ext _ (λ m l. sym (sum-* N (kernel ss m) (λ p. g p (n -ℤ m)))) ∙ within-sum _ N (λ m p. kernel ss m *ℤ g p (n -ℤ m))
+convolved-sum ss N g n = within-ext _ (λ m l. sym (sum-* N (kernel ss m) (λ p. g p (n -ℤ m)))) ∙ within-sum _ N (λ m p. kernel ss m *ℤ g p (n -ℤ m))
 
 -- a row of rows, along either first
-pub convolve-swap : (ss ts : List Stage) (g : ℤ → ℤ → ℤ) (n m : ℤ) → convolved ss (λ x. convolved ts (g x) m) n ≡ convolved ts (λ y. convolved ss (λ x. g x y) n) m
+pub convolved-swap : (ss ts : List Stage) (g : ℤ → ℤ → ℤ) (n m : ℤ) → convolved ss (λ x. convolved ts (g x) m) n ≡ convolved ts (λ y. convolved ss (λ x. g x y) n) m
 unfolding convolved
-convolve-swap ss ts g n m =
+convolved-swap ss ts g n m =
     within-ext _ (λ i l. sym (within-* _ (kernel ss i) _))
     ∙ within-swap _ _ (λ i j. kernel ss i *ℤ (kernel ts j *ℤ g (n -ℤ i) (m -ℤ j)))
     ∙ within-ext _ (λ j l. within-ext _ (λ i k. *ℤ-left-comm (kernel ss i) (kernel ts j) _) ∙ within-* _ (kernel ts j) _)
 
 -- ---- a row without negative numbers
-pub convolve-nonneg : (ss : List Stage) {e : ℤ → ℤ} → ((x : ℤ) → pos 0 ≤ℤ e x) → (n : ℤ) → pos 0 ≤ℤ convolved ss e n
+pub convolved-nonneg : (ss : List Stage) {e : ℤ → ℤ} → ((x : ℤ) → pos 0 ≤ℤ e x) → (n : ℤ) → pos 0 ≤ℤ convolved ss e n
 unfolding convolved
-convolve-nonneg ss h n = within-nonneg _ (λ m l. nonneg-* (kernel-nonneg ss m) (h (n -ℤ m)))
+convolved-nonneg ss h n = within-nonneg _ (λ m l. nonneg-* (kernel-nonneg ss m) (h (n -ℤ m)))

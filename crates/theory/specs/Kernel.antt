@@ -15,8 +15,7 @@ use Rattle.algebra.specs.Ring.{*ℤ-zero-l, *ℤ-zero-r, *ℤ-+ℤ}
 use Rattle.algebra.specs.Order.{nonneg-pos, nonneg-*}
 use Rattle.algebra.specs.Size.{natAbs-neg, natAbs-back}
 use Rattle.algebra.specs.Within.{sumWithin, Beyond, within-ext, within-none, within-*, within-neg, within-nonneg}
-use Rattle.meaning.specs.Kernel.{Stage, tap, kernel, width, tapReach, reach}
-use Rattle.meaning.specs.Smoothing.{passAt}
+use Rattle.meaning.specs.Kernel.{Stage, tap, kernel, width, tapReach, reach, passAt}
 
 -- ---- one pass
 pub tap-inside : (s : Stage) (m : ℤ) → natAbs m ≤ s .radius → tap s m ≡ pos (s .inner)
@@ -88,14 +87,14 @@ neg-sub : (m j : ℤ) → negℤ m -ℤ j ≡ negℤ (m -ℤ negℤ j)
 neg-sub m j = simp (negℤ-+ℤ, negℤ-negℤ)
 
 pub kernel-symmetric : (ss : List Stage) (m : ℤ) → kernel ss (negℤ m) ≡ kernel ss m
-unfolding kernel
+unfolding kernel passAt
 kernel-symmetric [] m = rw (natAbs-neg m)
 kernel-symmetric (s ∷ ss) m =
     within-ext _ (λ j l. ap₂ _*ℤ_ (sym (tap-symmetric s j)) (ap (kernel ss) (neg-sub m j) ∙ kernel-symmetric ss (m -ℤ negℤ j)))
     ∙ within-neg _ (λ j. tap s j *ℤ kernel ss (m -ℤ j))
 
 pub kernel-nonneg : (ss : List Stage) (m : ℤ) → pos 0 ≤ℤ kernel ss m
-unfolding kernel
+unfolding kernel passAt
 kernel-nonneg [] m = nonneg-pos
 kernel-nonneg (s ∷ ss) m = within-nonneg _ (λ j l. nonneg-* (tap-nonneg s j) (kernel-nonneg ss (m -ℤ j)))
 
@@ -108,7 +107,7 @@ reach-width [] = le-refl 0
 reach-width (s ∷ ss) = omega (arith, reach-width ss, tapReach-width s)
 
 pub kernel-outside : (ss : List Stage) → Beyond (reach ss) (kernel ss)
-unfolding kernel reach
+unfolding kernel passAt reach
 kernel-outside [] m h = rw (ne-eqb (natAbs m) 0 (omega arith))
 kernel-outside (s ∷ ss) m h = within-none _ (λ j l. term (kernel-outside ss) j (decLe (natAbs j) (tapReach s)))
   where

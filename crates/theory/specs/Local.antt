@@ -17,10 +17,10 @@ use Rattle.meaning.specs.Kernel.{Stage, reach, divisor}
 use Rattle.meaning.specs.Smoothing.{result, weight, apart, near}
 use Rattle.theory.specs.Folding.{Folding, Nearness}
 use Rattle.theory.specs.Lists.{at-past}
-use Rattle.theory.specs.Convolution.{convolve-const}
-use Rattle.theory.specs.Stages.{Positive}
-use Rattle.theory.specs.Reach.{convolve-local, convolve-positive}
-use Rattle.theory.specs.Weights.{reads-same, reads-other}
+use Rattle.theory.specs.Convolution.{convolved-const}
+use Rattle.theory.specs.Stages.{PositiveInner}
+use Rattle.theory.specs.Reach.{convolved-local, convolved-positive}
+use Rattle.theory.specs.Weights.{reads-yes, reads-no}
 
 pub near-yes : (ss : List Stage) (n p : ℕ) → apart n p ≤ reach ss → near ss n p ≡ true
 unfolding near
@@ -38,20 +38,20 @@ near-true ss n p h = leb-true _ _ h
 pub weight-outside : {φ : IndexMap} → Nearness φ → (ss : List Stage) {N n : ℕ} → n < N → (p : ℕ) → reach ss < apart n p → weight φ ss N (pos n) p ≡ pos 0
 unfolding weight
 weight-outside {φ} C ss {N} {n} h p far =
-    convolve-local ss (pos n) (λ x l. reads-other φ N x (λ e. other x l (rw e at (C .nearest h x))))
-    ∙ convolve-const ss (pos 0) (pos n) ∙ *ℤ-zero (pos (divisor ss))
+    convolved-local ss (pos n) (λ x l. reads-no φ N x (λ e. other x l (rw e at (C .nearest h x))))
+    ∙ convolved-const ss (pos 0) (pos n) ∙ *ℤ-zero (pos (divisor ss))
   where
     other : (x : ℤ) → natAbs (pos n -ℤ x) ≤ reach ss → apart n p ≤ natAbs (pos n -ℤ x) → ⊥
     other x l k = omega arith
 
 -- p itself reads p
-pub weight-positive : {φ : IndexMap} → Folding φ → {ss : List Stage} → Positive ss → {N p : ℕ} → p < N → (n : ℕ) → apart n p ≤ reach ss → pos 0 <ℤ weight φ ss N (pos n) p
+pub weight-positive : {φ : IndexMap} → Folding φ → {ss : List Stage} → PositiveInner ss → {N p : ℕ} → p < N → (n : ℕ) → apart n p ≤ reach ss → pos 0 <ℤ weight φ ss N (pos n) p
 unfolding weight
-weight-positive {φ} F b {N} {p} h n l = convolve-positive b (λ x. nonneg-pos) (pos n) (pos p) (rw (natAbs-sub n p) l) (rw (reads-same φ N (pos p) (F .here h)) (positive-pos (omega arith)))
+weight-positive {φ} F b {N} {p} h n l = convolved-positive b (λ x. nonneg-pos) (pos n) (pos p) (rw (natAbs-sub n p) l) (rw (reads-yes φ N (pos p) (F .here h)) (positive-pos (omega arith)))
 
 pub result-local : {φ : IndexMap} → Nearness φ → (ss : List Stage) (f g : List ℤ) → length f ≡ length g → {n : ℕ} → n < length f → ((p : ℕ) → p < length f → apart n p ≤ reach ss → at f p ≡ at g p) → result φ ss f (pos n) ≡ result φ ss g (pos n)
 unfolding result ext
-result-local {φ} C ss f g e {n} h k = convolve-local ss (pos n) (λ x l. rw (← e) (go x l (C .nearest h x) (decLt (φ (length f) x) (length f))))
+result-local {φ} C ss f g e {n} h k = convolved-local ss (pos n) (λ x l. rw (← e) (go x l (C .nearest h x) (decLt (φ (length f) x) (length f))))
   where
     go : (x : ℤ) {p : ℕ} → natAbs (pos n -ℤ x) ≤ reach ss → apart n p ≤ natAbs (pos n -ℤ x) → Dec (p < length f) → at f p ≡ at g p
     go x {p} l q (yes t) = k p t (omega arith)

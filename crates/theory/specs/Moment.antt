@@ -1,8 +1,8 @@
 -- The second moment of a kernel. A kernel's variance is its moment over its divisor, so in whole numbers:
 --   moment-append   variances add: of stages one after the other, each one's moment times the other's divisor
---   moment-same     the variance of K equal stages is K times that of one
+--   moment-replicate     the variance of K equal stages is K times that of one
 --   moment-stage    that of one stage, in its radius and weights: (r(r+1)(2r+1)b + 6(r+1)²a) / 3 over the sum of its taps
--- Laws: kernel-centred, convolve-square; moment-append, moment-order, moment-cons, moment-same, moment-stage, moment-nonneg.
+-- Laws: kernel-centred, convolved-square; moment-append, moment-order, moment-cons, moment-replicate, moment-stage, moment-nonneg.
 use mathlib.Core.Path.{_≡_, refl, sym, _∙_, ap, ap₂}
 use mathlib.Core.List.{List, [], _∷_, _++_}
 use Prim.Native.Nat.{ℕ, zero, suc, _+_, _*_}
@@ -17,11 +17,11 @@ use Rattle.algebra.specs.Order.{zarith, of+, nonneg-*, nonneg-square}
 use Rattle.algebra.specs.Expression.{_⊕_, _⊝_, _⊗_, con}
 use Rattle.algebra.specs.Solver.{ring, _≗_}
 use Rattle.algebra.specs.Within.{sumWithin, within-ext, within-none, within-+, within-*, within-neg, within-nonneg}
-use Rattle.meaning.specs.Kernel.{Stage, tap, kernel, width, tapSum, divisor, moment}
-use Rattle.meaning.specs.Smoothing.{passAt, convolved}
+use Rattle.meaning.specs.Kernel.{Stage, tap, kernel, width, tapSum, divisor, moment, passAt}
+use Rattle.meaning.specs.Smoothing.{convolved}
 use Rattle.theory.specs.Kernel.{tap-split, kernel-symmetric, kernel-nonneg}
-use Rattle.theory.specs.Convolution.{passAt-ext, convolve-ext, convolve-none, convolve-cons, convolve-append, convolve-const, convolve-+, convolve-*, kernel-sum}
-use Rattle.theory.specs.Order.{Reordered, convolve-order}
+use Rattle.theory.specs.Convolution.{passAt-ext, convolved-ext, convolved-none, convolved-cons, convolved-append, convolved-const, convolved-+, convolved-*, kernel-sum}
+use Rattle.theory.specs.Order.{Reordered, convolved-order}
 
 -- ---- its first moment is 0
 pub kernel-centred : (ss : List Stage) → sumWithin (width ss) (λ m. kernel ss m *ℤ m) ≡ pos 0
@@ -34,9 +34,9 @@ kernel-centred ss = half (sumWithin (width ss) (λ m. kernel ss m *ℤ m)) (
     half x e = omega (zarith, of+ x x)
 
 -- ---- variances add
-pub convolve-square : (ss : List Stage) (n : ℤ) → convolved ss (λ x. x *ℤ x) n ≡ moment ss +ℤ pos (divisor ss) *ℤ (n *ℤ n)
+pub convolved-square : (ss : List Stage) (n : ℤ) → convolved ss (λ x. x *ℤ x) n ≡ moment ss +ℤ pos (divisor ss) *ℤ (n *ℤ n)
 unfolding moment convolved
-convolve-square ss n =
+convolved-square ss n =
     within-ext _ (λ m l. square (kernel ss m) m n)
     ∙ within-+ _ (λ m. kernel ss m *ℤ (m *ℤ m)) (λ m. (pos 0 -ℤ n -ℤ n) *ℤ (kernel ss m *ℤ m) +ℤ n *ℤ n *ℤ kernel ss m)
     ∙ ap (λ z. moment ss +ℤ z) (
@@ -49,22 +49,22 @@ convolve-square ss n =
 
 -- the squares' convolution at 0
 centre : (ss : List Stage) → convolved ss (λ x. x *ℤ x) (pos 0) ≡ moment ss
-centre ss = convolve-square ss (pos 0) ∙ ap (λ z. moment ss +ℤ z) (*ℤ-zero (pos (divisor ss))) ∙ +ℤ-idr (moment ss)
+centre ss = convolved-square ss (pos 0) ∙ ap (λ z. moment ss +ℤ z) (*ℤ-zero (pos (divisor ss))) ∙ +ℤ-idr (moment ss)
 
 pub moment-append : (ss ts : List Stage) → moment (ss ++ ts) ≡ moment ss *ℤ pos (divisor ts) +ℤ pos (divisor ss) *ℤ moment ts
 moment-append ss ts =
     sym (centre (ss ++ ts))
-    ∙ convolve-append ss ts (λ x. x *ℤ x) (pos 0)
-    ∙ convolve-ext ss (convolve-square ts) (pos 0)
-    ∙ convolve-+ ss (λ x. moment ts) (λ x. pos (divisor ts) *ℤ (x *ℤ x)) (pos 0)
-    ∙ ap₂ _+ℤ_ (convolve-const ss (moment ts) (pos 0)) (convolve-* ss (pos (divisor ts)) (λ x. x *ℤ x) (pos 0) ∙ ap (λ z. pos (divisor ts) *ℤ z) (centre ss))
+    ∙ convolved-append ss ts (λ x. x *ℤ x) (pos 0)
+    ∙ convolved-ext ss (convolved-square ts) (pos 0)
+    ∙ convolved-+ ss (λ x. moment ts) (λ x. pos (divisor ts) *ℤ (x *ℤ x)) (pos 0)
+    ∙ ap₂ _+ℤ_ (convolved-const ss (moment ts) (pos 0)) (convolved-* ss (pos (divisor ts)) (λ x. x *ℤ x) (pos 0) ∙ ap (λ z. pos (divisor ts) *ℤ z) (centre ss))
     ∙ regroup (pos (divisor ss)) (moment ts) (pos (divisor ts)) (moment ss)
   where
     regroup : (d v e u : ℤ) → d *ℤ v +ℤ e *ℤ u ≡ u *ℤ e +ℤ d *ℤ v
     regroup d v e u = simp ac
 
 pub moment-order : {ss ts : List Stage} → Reordered ss ts → moment ss ≡ moment ts
-moment-order {ss} {ts} o = sym (centre ss) ∙ convolve-order o (λ x. x *ℤ x) (pos 0) ∙ centre ts
+moment-order {ss} {ts} o = sym (centre ss) ∙ convolved-order o (λ x. x *ℤ x) (pos 0) ∙ centre ts
 
 pub moment-cons : (s : Stage) (ss : List Stage) → moment (s ∷ ss) ≡ moment (s ∷ []) *ℤ pos (divisor ss) +ℤ pos (tapSum s) *ℤ moment ss
 moment-cons s ss = moment-append (s ∷ []) ss ∙ ap (λ d. moment (s ∷ []) *ℤ pos (divisor ss) +ℤ pos d *ℤ moment ss) (unfold divisor in mul-one (tapSum s))
@@ -73,10 +73,10 @@ moment-none : moment [] ≡ pos 0
 unfolding moment width sumWithin kernel
 moment-none = refl
 
-pub moment-same : (K : ℕ) (s : Stage) → pos (tapSum s) *ℤ moment (replicate K s) ≡ pos K *ℤ (moment (s ∷ []) *ℤ pos (divisor (replicate K s)))
+pub moment-replicate : (K : ℕ) (s : Stage) → pos (tapSum s) *ℤ moment (replicate K s) ≡ pos K *ℤ (moment (s ∷ []) *ℤ pos (divisor (replicate K s)))
 unfolding divisor
-moment-same zero s = ap (λ z. pos (tapSum s) *ℤ z) moment-none ∙ *ℤ-zero (pos (tapSum s)) ∙ sym (zero-*ℤ (moment (s ∷ []) *ℤ pos 1))
-moment-same (suc K) s = rw (← add-one K) (ap (λ z. pos (tapSum s) *ℤ z) (moment-cons s (replicate K s)) ∙ step (pos (tapSum s)) (moment (s ∷ [])) (pos (divisor (replicate K s))) (moment (replicate K s)) (pos K) (moment-same K s))
+moment-replicate zero s = ap (λ z. pos (tapSum s) *ℤ z) moment-none ∙ *ℤ-zero (pos (tapSum s)) ∙ sym (zero-*ℤ (moment (s ∷ []) *ℤ pos 1))
+moment-replicate (suc K) s = rw (← add-one K) (ap (λ z. pos (tapSum s) *ℤ z) (moment-cons s (replicate K s)) ∙ step (pos (tapSum s)) (moment (s ∷ [])) (pos (divisor (replicate K s))) (moment (replicate K s)) (pos K) (moment-replicate K s))
   where
     step : (t v d x k : ℤ) → t *ℤ x ≡ k *ℤ (v *ℤ d) → t *ℤ (v *ℤ d +ℤ t *ℤ x) ≡ (k +ℤ pos 1) *ℤ (v *ℤ (t *ℤ d))
     step t v d x k e = rw e (ring 4 (λ t v d k. t ⊗ (v ⊗ d ⊕ k ⊗ (v ⊗ d)) ≗ (k ⊕ con (pos 1)) ⊗ (v ⊗ (t ⊗ d))) refl t v d k)
@@ -91,7 +91,7 @@ pub moment-stage : (s : Stage) → pos 3 *ℤ moment (s ∷ []) ≡ pos (s .radi
 unfolding passAt
 moment-stage s =
     ap (λ z. pos 3 *ℤ z) (
-    sym (centre (s ∷ [])) ∙ convolve-cons s [] (λ x. x *ℤ x) (pos 0) ∙ passAt-ext s (convolve-none (λ x. x *ℤ x)) (pos 0)
+    sym (centre (s ∷ [])) ∙ convolved-cons s [] (λ x. x *ℤ x) (pos 0) ∙ passAt-ext s (convolved-none (λ x. x *ℤ x)) (pos 0)
     ∙ within-ext (suc r) (λ j l. ap (λ z. tap s j *ℤ z) (even j)) ∙ tap-split s (λ j. j *ℤ j))
     ∙ regroup (pos (s .inner)) (sumWithin r (λ m. m *ℤ m)) (pos (s .edge)) (pos (suc r * suc r))
     ∙ rw (squares r) (ap pos (omega arith))

@@ -1,7 +1,7 @@
 -- The order of stages does not matter.
 --   Reordered ss ts   ts has the stages of ss, in some order
 -- Laws: append-order (which of two lists comes first);
--- width-order, reach-order, divisor-order, convolve-order, kernel-order, result-order, results-order.
+-- width-order, reach-order, divisor-order, convolved-order, kernel-order, result-order, results-order.
 use mathlib.Core.Path.{_≡_, refl, sym, _∙_, ap}
 use mathlib.Core.List.{List, [], _∷_, _++_, append-nil}
 use Prim.Native.Nat.{ℕ, _+_}
@@ -10,9 +10,9 @@ use native.Mathlib.Omega.{arith}
 use lib.ListN.{length}
 use lib.IntN.{ℤ, pos, natAbs}
 use Rattle.meaning.specs.Extension.{IndexMap, ext}
-use Rattle.meaning.specs.Kernel.{Stage, kernel, width, reach, tapSum, divisor}
-use Rattle.meaning.specs.Smoothing.{passAt, convolved, result, results}
-use Rattle.theory.specs.Convolution.{passAt-ext, passAt-swap, convolve-cons, convolve-const, kernel-append}
+use Rattle.meaning.specs.Kernel.{Stage, kernel, width, reach, tapSum, divisor, passAt}
+use Rattle.meaning.specs.Smoothing.{convolved, result, results}
+use Rattle.theory.specs.Convolution.{passAt-ext, passAt-swap, convolved-cons, convolved-const, kernel-append}
 use Rattle.theory.specs.Lists.{listOf-ext}
 
 pub data Reordered : List Stage → List Stage → Type 0 where
@@ -48,27 +48,27 @@ pub reach-order : {ss ts : List Stage} → Reordered ss ts → reach ss ≡ reac
 unfolding reach
 reach-order o = number-order reach (λ s ss ts e. omega arith) (λ s t ss. omega arith) o
 
-pub convolve-order : {ss ts : List Stage} → Reordered ss ts → (e : ℤ → ℤ) (n : ℤ) → convolved ss e n ≡ convolved ts e n
-convolve-order empty e n = refl
-convolve-order {ss = _ ∷ ss} {ts = _ ∷ ts} (keep s o) e n = convolve-cons s ss e n ∙ passAt-ext s (convolve-order o e) n ∙ sym (convolve-cons s ts e n)
-convolve-order (swap s t ss) e n = two s t ∙ passAt-swap s t (convolved ss e) n ∙ sym (two t s)
+pub convolved-order : {ss ts : List Stage} → Reordered ss ts → (e : ℤ → ℤ) (n : ℤ) → convolved ss e n ≡ convolved ts e n
+convolved-order empty e n = refl
+convolved-order {ss = _ ∷ ss} {ts = _ ∷ ts} (keep s o) e n = convolved-cons s ss e n ∙ passAt-ext s (convolved-order o e) n ∙ sym (convolved-cons s ts e n)
+convolved-order (swap s t ss) e n = two s t ∙ passAt-swap s t (convolved ss e) n ∙ sym (two t s)
   where
     two : (s t : Stage) → convolved (s ∷ t ∷ ss) e n ≡ passAt s (passAt t (convolved ss e)) n
-    two s t = convolve-cons s (t ∷ ss) e n ∙ passAt-ext s (convolve-cons t ss e) n
-convolve-order (then o q) e n = convolve-order o e n ∙ convolve-order q e n
+    two s t = convolved-cons s (t ∷ ss) e n ∙ passAt-ext s (convolved-cons t ss e) n
+convolved-order (then o q) e n = convolved-order o e n ∙ convolved-order q e n
 
 pub divisor-order : {ss ts : List Stage} → Reordered ss ts → divisor ss ≡ divisor ts
-divisor-order {ss} {ts} o = sym (mul-one (divisor ss)) ∙ ap natAbs (sym (convolve-const ss (pos 1) (pos 0)) ∙ convolve-order o (λ x. pos 1) (pos 0) ∙ convolve-const ts (pos 1) (pos 0)) ∙ mul-one (divisor ts)
+divisor-order {ss} {ts} o = sym (mul-one (divisor ss)) ∙ ap natAbs (sym (convolved-const ss (pos 1) (pos 0)) ∙ convolved-order o (λ x. pos 1) (pos 0) ∙ convolved-const ts (pos 1) (pos 0)) ∙ mul-one (divisor ts)
 
 pub kernel-order : {ss ts : List Stage} → Reordered ss ts → (m : ℤ) → kernel ss m ≡ kernel ts m
-kernel-order {ss} {ts} o m = alone ss ∙ convolve-order o (kernel []) m ∙ sym (alone ts)
+kernel-order {ss} {ts} o m = alone ss ∙ convolved-order o (kernel []) m ∙ sym (alone ts)
   where
     alone : (ss : List Stage) → kernel ss m ≡ convolved ss (kernel []) m
     alone ss = ap (λ l. kernel l m) (sym (append-nil ss)) ∙ kernel-append ss [] m
 
 pub result-order : (φ : IndexMap) {ss ts : List Stage} → Reordered ss ts → (f : List ℤ) (n : ℤ) → result φ ss f n ≡ result φ ts f n
 unfolding result
-result-order φ o f n = convolve-order o (ext φ f) n
+result-order φ o f n = convolved-order o (ext φ f) n
 
 pub results-order : (φ : IndexMap) {ss ts : List Stage} → Reordered ss ts → (f : List ℤ) → results φ ss f ≡ results φ ts f
 unfolding results

@@ -1,9 +1,9 @@
 -- The law: passes are one convolution.
 --   repeated K g f   g (g (.. f)), K times
 -- A symmetric kernel commutes with a folding, so the extension of the results is the result at every whole n (ext-results).
--- Then a stage in front is one pass more (results-cons), and K equal stages are K passes (results-same).
+-- Then a stage in front is one pass more (results-cons), and K equal stages are K passes (results-replicate).
 -- Laws: length-results, at-results, length-pass; result-none, result-cons, result-append;
--- result-fold, ext-results; results-none, results-cons, results-append, results-same.
+-- result-fold, ext-results; results-none, results-cons, results-append, results-replicate.
 use mathlib.Core.Path.{_≡_, refl, sym, _∙_, ap, ap₂}
 use mathlib.Core.List.{List, [], _∷_, _++_}
 use Prim.Native.Nat.{ℕ, zero, suc, _<_}
@@ -12,10 +12,10 @@ use lib.ListN.{length, replicate}
 use lib.IntN.{ℤ, pos, negℤ, _-ℤ_, _*ℤ_, *ℤ-zero}
 use Rattle.algebra.specs.Within.{within-ext, within-neg}
 use Rattle.meaning.specs.Extension.{at, IndexMap, ext}
-use Rattle.meaning.specs.Kernel.{Stage, kernel, divisor}
-use Rattle.meaning.specs.Smoothing.{convolved, result, results, passAt, pass}
+use Rattle.meaning.specs.Kernel.{Stage, kernel, divisor, passAt}
+use Rattle.meaning.specs.Smoothing.{convolved, result, results, pass}
 use Rattle.theory.specs.Kernel.{kernel-symmetric}
-use Rattle.theory.specs.Convolution.{passAt-ext, convolve-none, convolve-const, convolve-cons, convolve-append}
+use Rattle.theory.specs.Convolution.{passAt-ext, convolved-none, convolved-const, convolved-cons, convolved-append}
 use Rattle.theory.specs.Lists.{length-listOf, at-listOf, listOf-ext, listOf-at, at-past}
 use Rattle.theory.specs.Folding.{Folding, Follows, forward, backward}
 
@@ -44,15 +44,15 @@ module _ (φ : IndexMap) where
   -- ---- at every whole n
   pub result-none : (f : List ℤ) (n : ℤ) → result φ [] f n ≡ ext φ f n
   unfolding result
-  result-none f n = convolve-none (ext φ f) n
+  result-none f n = convolved-none (ext φ f) n
 
   pub result-cons : (s : Stage) (ss : List Stage) (f : List ℤ) (n : ℤ) → result φ (s ∷ ss) f n ≡ passAt s (result φ ss f) n
   unfolding result
-  result-cons s ss f n = convolve-cons s ss (ext φ f) n
+  result-cons s ss f n = convolved-cons s ss (ext φ f) n
 
   pub result-append : (ss ts : List Stage) (f : List ℤ) (n : ℤ) → result φ (ss ++ ts) f n ≡ convolved ss (result φ ts f) n
   unfolding result
-  result-append ss ts f n = convolve-append ss ts (ext φ f) n
+  result-append ss ts f n = convolved-append ss ts (ext φ f) n
 
   follows : (ss : List Stage) (f : List ℤ) (n : ℤ) (p : ℕ) → Follows (φ (length f)) n p → result φ ss f n ≡ result φ ss f (pos p)
   unfolding result convolved ext
@@ -63,7 +63,7 @@ module _ (φ : IndexMap) where
 
   result-empty : (ss : List Stage) (n : ℤ) → result φ ss [] n ≡ pos 0
   unfolding result ext
-  result-empty ss n = convolve-const ss (pos 0) n ∙ *ℤ-zero (pos (divisor ss))
+  result-empty ss n = convolved-const ss (pos 0) n ∙ *ℤ-zero (pos (divisor ss))
 
 -- ---- the extension of the results
 module _ {φ : IndexMap} (F : Folding φ) where
@@ -89,7 +89,7 @@ module _ {φ : IndexMap} (F : Folding φ) where
   results-append [] ts f = sym (results-none (results φ ts f))
   results-append (s ∷ ss) ts f = results-cons s (ss ++ ts) f ∙ ap (pass φ s) (results-append ss ts f) ∙ sym (results-cons s ss (results φ ts f))
 
-  pub results-same : (K : ℕ) (s : Stage) (f : List ℤ) → results φ (replicate K s) f ≡ repeated K (pass φ s) f
+  pub results-replicate : (K : ℕ) (s : Stage) (f : List ℤ) → results φ (replicate K s) f ≡ repeated K (pass φ s) f
   unfolding repeated
-  results-same zero s f = results-none f
-  results-same (suc K) s f = results-cons s (replicate K s) f ∙ ap (pass φ s) (results-same K s f)
+  results-replicate zero s f = results-none f
+  results-replicate (suc K) s f = results-cons s (replicate K s) f ∙ ap (pass φ s) (results-replicate K s f)

@@ -18,7 +18,7 @@ use Rattle.meaning.specs.Kernel.{Stage, divisor}
 use Rattle.meaning.specs.Smoothing.{listOf, convolved, result, results, pass}
 use Rattle.meaning.specs.Picture.{cell, pixel, grid, picture, row, column, across, down}
 use Rattle.theory.specs.Folding.{Folding}
-use Rattle.theory.specs.Convolution.{convolve-ext, convolve-swap}
+use Rattle.theory.specs.Convolution.{convolved-ext, convolved-swap}
 use Rattle.theory.specs.Lists.{length-listOf, at-listOf, listOf-ext, listOf-at, Sized, sized, sized-listOf}
 use Rattle.theory.specs.Passes.{length-results, at-results, results-none, results-cons}
 use Rattle.theory.specs.Sizes.{results-size}
@@ -147,7 +147,7 @@ module _ {φ : IndexMap} (F : Folding φ) where
   unfolding result ext
   at-line ss n g i h =
       at-results φ ss (listOf n g) i (omega (arith, length-listOf n g))
-      ∙ convolve-ext ss (λ x. rw (length-listOf n g) (at-listOf n g (φ n x) (F .below (omega arith) x))) (pos i)
+      ∙ convolved-ext ss (λ x. rw (length-listOf n g) (at-listOf n g (φ n x) (F .below (omega arith) x))) (pos i)
 
 -- ---- rows first, columns first
 module _ {φ ψ : IndexMap} (F : Folding φ) (G : Folding ψ) (hs vs : List Stage) (W H : ℕ) (f : List ℤ) where
@@ -155,14 +155,14 @@ module _ {φ ψ : IndexMap} (F : Folding φ) (G : Folding ψ) (hs vs : List Stag
   unfolding down across row column picture pixel
   rows-first = grid-ext W H (λ x y hx hy.
       at-line G vs H _ y hy
-      ∙ convolve-ext vs (λ j. cell-grid W H _ x (ψ H j) hx (G .below (omega arith) j) ∙ at-line F hs W _ x hx) (pos y)
-      ∙ convolve-swap vs hs (λ j i. cell W f (φ W i) (ψ H j)) (pos y) (pos x))
+      ∙ convolved-ext vs (λ j. cell-grid W H _ x (ψ H j) hx (G .below (omega arith) j) ∙ at-line F hs W _ x hx) (pos y)
+      ∙ convolved-swap vs hs (λ j i. cell W f (φ W i) (ψ H j)) (pos y) (pos x))
 
   pub columns-first : across (results φ hs) W H (down (results ψ vs) W H f) ≡ picture φ ψ hs vs W H f
   unfolding down across row column picture pixel
   columns-first = grid-ext W H (λ x y hx hy.
       at-line F hs W _ x hx
-      ∙ convolve-ext hs (λ i. cell-grid W H _ (φ W i) y (F .below (omega arith) i) hy ∙ at-line G vs H _ y hy) (pos x))
+      ∙ convolved-ext hs (λ i. cell-grid W H _ (φ W i) y (F .below (omega arith) i) hy ∙ at-line G vs H _ y hy) (pos x))
 
   pub either-first : down (results ψ vs) W H (across (results φ hs) W H f) ≡ across (results φ hs) W H (down (results ψ vs) W H f)
   either-first = rows-first ∙ sym columns-first

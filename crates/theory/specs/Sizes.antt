@@ -1,5 +1,5 @@
 -- How large results grow: samples of size up to M give results of size up to M times the divisor, and so after every pass.
--- Laws: passAt-size, convolve-size; ext-size, pass-size; result-size, results-size; part-size (after some of the passes).
+-- Laws: passAt-size, convolved-size; ext-size, pass-size; result-size, results-size; part-size (after some of the passes).
 use mathlib.Core.List.{List, [], _∷_, _++_}
 use Prim.Native.Nat.{ℕ, suc, _*_}
 use native.Mathlib.Nat.{mul-one, mul-comm, mul-le-mul-left}
@@ -8,21 +8,21 @@ use lib.IntN.{ℤ, pos, _-ℤ_}
 use Rattle.algebra.specs.Size.{Abs}
 use Rattle.algebra.specs.Within.{within-weighted}
 use Rattle.meaning.specs.Extension.{at, IndexMap, ext}
-use Rattle.meaning.specs.Kernel.{Stage, tap, kernel, width, tapSum, divisor}
-use Rattle.meaning.specs.Smoothing.{convolved, result, results, passAt, pass}
+use Rattle.meaning.specs.Kernel.{Stage, tap, kernel, width, tapSum, divisor, passAt}
+use Rattle.meaning.specs.Smoothing.{convolved, result, results, pass}
 use Rattle.theory.specs.Kernel.{kernel-nonneg}
 use Rattle.theory.specs.Convolution.{kernel-sum, passAt-one}
-use Rattle.theory.specs.Stages.{Positive, divisor-part}
+use Rattle.theory.specs.Stages.{PositiveInner, divisor-part}
 use Rattle.theory.specs.Lists.{Sized, sized-weaken, sized-listOf}
 
 -- ---- of a row
-pub convolve-size : (ss : List Stage) {M : ℕ} {e : ℤ → ℤ} → ((n : ℤ) → Abs (e n) M) → (n : ℤ) → Abs (convolved ss e n) (M * divisor ss)
+pub convolved-size : (ss : List Stage) {M : ℕ} {e : ℤ → ℤ} → ((n : ℤ) → Abs (e n) M) → (n : ℤ) → Abs (convolved ss e n) (M * divisor ss)
 unfolding convolved
-convolve-size ss {M} {e} h n = rw (mul-comm M (divisor ss)) (rw (kernel-sum ss) at (within-weighted (width ss) M (kernel ss) (λ m. e (n -ℤ m)) (λ m l. kernel-nonneg ss m) (λ m l. h (n -ℤ m))))
+convolved-size ss {M} {e} h n = rw (mul-comm M (divisor ss)) (rw (kernel-sum ss) at (within-weighted (width ss) M (kernel ss) (λ m. e (n -ℤ m)) (λ m l. kernel-nonneg ss m) (λ m l. h (n -ℤ m))))
 
 pub passAt-size : (s : Stage) {M : ℕ} {e : ℤ → ℤ} → ((n : ℤ) → Abs (e n) M) → (n : ℤ) → Abs (passAt s e n) (M * tapSum s)
 unfolding divisor
-passAt-size s {M} {e} h n = rw (← passAt-one s e n, ← mul-one (tapSum s)) (convolve-size (s ∷ []) h n)
+passAt-size s {M} {e} h n = rw (← passAt-one s e n, ← mul-one (tapSum s)) (convolved-size (s ∷ []) h n)
 
 -- ---- of a series
 module _ (φ : IndexMap) {M : ℕ} {f : List ℤ} (h : Sized M f) where
@@ -36,12 +36,12 @@ module _ (φ : IndexMap) {M : ℕ} {f : List ℤ} (h : Sized M f) where
 
   pub result-size : (ss : List Stage) (n : ℤ) → Abs (result φ ss f n) (M * divisor ss)
   unfolding result
-  result-size ss n = convolve-size ss ext-size n
+  result-size ss n = convolved-size ss ext-size n
 
   pub results-size : (ss : List Stage) → Sized (M * divisor ss) (results φ ss f)
   unfolding results
   results-size ss = sized-listOf (length f) _ (λ n l. result-size ss (pos n))
 
   -- after the passes of ts, when those of ss are still to come
-  pub part-size : {ss : List Stage} (ts : List Stage) → Positive ss → Sized (M * divisor (ss ++ ts)) (results φ ts f)
+  pub part-size : {ss : List Stage} (ts : List Stage) → PositiveInner ss → Sized (M * divisor (ss ++ ts)) (results φ ts f)
   part-size ts p = sized-weaken (results-size ts) (mul-le-mul-left M (divisor-part ts p))

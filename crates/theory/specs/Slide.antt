@@ -18,10 +18,10 @@ use Rattle.algebra.specs.Size.{Abs, abs-weaken, abs-self, abs-+, abs--, abs-*}
 use Rattle.algebra.specs.Sum.{sumZ}
 use Rattle.algebra.specs.Within.{sumWithin, within-ext, within-step, within-interval, within-abs}
 use Rattle.meaning.specs.Extension.{IndexMap, ext}
-use Rattle.meaning.specs.Kernel.{Stage, tapSum, divisor}
-use Rattle.meaning.specs.Smoothing.{results, passAt}
+use Rattle.meaning.specs.Kernel.{Stage, tapSum, divisor, passAt}
+use Rattle.meaning.specs.Smoothing.{results}
 use Rattle.theory.specs.Kernel.{tap-split}
-use Rattle.theory.specs.Stages.{Positive, divisor-part}
+use Rattle.theory.specs.Stages.{PositiveInner, divisor-part}
 use Rattle.theory.specs.Lists.{Sized}
 use Rattle.theory.specs.Sizes.{passAt-size, ext-size, results-size}
 
@@ -104,6 +104,6 @@ module _ (s : Stage) {M : ℕ} {e : ℤ → ℤ} (h : (n : ℤ) → Abs (e n) M)
       }
 
 -- the pass of s after those of ts, with those of ss to come
-pub step-part : (φ : IndexMap) {M : ℕ} {f : List ℤ} → Sized M f → {ss : List Stage} → Positive ss → (s : Stage) → 0 < s .inner → (ts : List Stage) {B : ℕ} → 2 * (M * divisor (ss ++ (s ∷ ts))) ≤ B → Step s (ext φ (results φ ts f)) B
+pub step-part : (φ : IndexMap) {M : ℕ} {f : List ℤ} → Sized M f → {ss : List Stage} → PositiveInner ss → (s : Stage) → 0 < s .inner → (ts : List Stage) {B : ℕ} → 2 * (M * divisor (ss ++ (s ∷ ts))) ≤ B → Step s (ext φ (results φ ts f)) B
 unfolding divisor
 step-part φ {M} h p s b ts l = step-size s (ext-size φ (results-size φ h ts)) b (omega (arith, mul-le-mul-left M (divisor-part (s ∷ ts) p)))

@@ -1,8 +1,8 @@
 -- The numbers of stages one after the other, and of K equal ones.
---   Positive ss   every inner weight of ss is above 0
--- Laws: width-append, reach-append, divisor-append; width-same, reach-same, divisor-same (of K equal stages);
+--   PositiveInner ss   every inner weight of ss is above 0
+-- Laws: width-append, reach-append, divisor-append; width-replicate, reach-replicate, divisor-replicate (of K equal stages);
 -- divisor-plan, reach-edged, reach-plain (document 01's numbers of a plan);
--- positive-same, positive-append, tapSum-positive, divisor-positive, divisor-part.
+-- inner-replicate, inner-append, tapSum-positive, divisor-positive, divisor-part.
 use mathlib.Core.Path.{_≡_, sym, _∙_}
 use mathlib.Core.List.{List, [], _∷_, _++_}
 use Prim.Native.Nat.{ℕ, zero, suc, _+_, _*_, _^_, _≤_, _<_}
@@ -29,54 +29,54 @@ divisor-append [] ts = sym (one-mul (divisor ts))
 divisor-append (s ∷ ss) ts = rw (divisor-append ss ts) (sym (mul-assoc (tapSum s) (divisor ss) (divisor ts)))
 
 -- ---- of K equal stages
-pub width-same : (K : ℕ) (s : Stage) → width (replicate K s) ≡ K * suc (s .radius)
+pub width-replicate : (K : ℕ) (s : Stage) → width (replicate K s) ≡ K * suc (s .radius)
 unfolding width
-width-same zero s = sym (zero-mul (suc (s .radius)))
-width-same (suc K) s = rw (width-same K s) (sym (suc-mul K (suc (s .radius))))
+width-replicate zero s = sym (zero-mul (suc (s .radius)))
+width-replicate (suc K) s = rw (width-replicate K s) (sym (suc-mul K (suc (s .radius))))
 
-pub reach-same : (K : ℕ) (s : Stage) → reach (replicate K s) ≡ K * tapReach s
+pub reach-replicate : (K : ℕ) (s : Stage) → reach (replicate K s) ≡ K * tapReach s
 unfolding reach
-reach-same zero s = sym (zero-mul (tapReach s))
-reach-same (suc K) s = rw (reach-same K s) (sym (suc-mul K (tapReach s)))
+reach-replicate zero s = sym (zero-mul (tapReach s))
+reach-replicate (suc K) s = rw (reach-replicate K s) (sym (suc-mul K (tapReach s)))
 
-pub divisor-same : (K : ℕ) (s : Stage) → divisor (replicate K s) ≡ tapSum s ^ K
+pub divisor-replicate : (K : ℕ) (s : Stage) → divisor (replicate K s) ≡ tapSum s ^ K
 unfolding divisor
-divisor-same zero s = sym (pow-zero (tapSum s))
-divisor-same (suc K) s = rw (divisor-same K s) (mul-comm (tapSum s) (tapSum s ^ K) ∙ sym (pow-suc (tapSum s) K))
+divisor-replicate zero s = sym (pow-zero (tapSum s))
+divisor-replicate (suc K) s = rw (divisor-replicate K s) (mul-comm (tapSum s) (tapSum s ^ K) ∙ sym (pow-suc (tapSum s) K))
 
 pub divisor-plan : (r b a K : ℕ) → divisor (plan r b a K) ≡ ((2 * r + 1) * b + 2 * a) ^ K
 unfolding tapSum
-divisor-plan r b a K = divisor-same K (record { radius = r; inner = b; edge = a })
+divisor-plan r b a K = divisor-replicate K (record { radius = r; inner = b; edge = a })
 
 pub reach-edged : (r b a K : ℕ) → 0 < a → reach (plan r b a K) ≡ K * (r + 1)
-reach-edged r b a K h = reach-same K _ ∙ rw (ne-eqb a 0 (omega arith)) (omega arith)
+reach-edged r b a K h = reach-replicate K _ ∙ rw (ne-eqb a 0 (omega arith)) (omega arith)
 
 pub reach-plain : (r b K : ℕ) → reach (plan r b 0 K) ≡ K * r
-reach-plain r b K = reach-same K _
+reach-plain r b K = reach-replicate K _
 
 -- ---- inner weights above 0
 infixr 5 _and_
-pub data Positive : List Stage → Type 0 where
-  none : Positive []
-  _and_ : {s : Stage} {ss : List Stage} → 0 < s .inner → Positive ss → Positive (s ∷ ss)
+pub data PositiveInner : List Stage → Type 0 where
+  none : PositiveInner []
+  _and_ : {s : Stage} {ss : List Stage} → 0 < s .inner → PositiveInner ss → PositiveInner (s ∷ ss)
 
-pub positive-same : (K : ℕ) (s : Stage) → 0 < s .inner → Positive (replicate K s)
-positive-same zero s h = none
-positive-same (suc K) s h = h and positive-same K s h
+pub inner-replicate : (K : ℕ) (s : Stage) → 0 < s .inner → PositiveInner (replicate K s)
+inner-replicate zero s h = none
+inner-replicate (suc K) s h = h and inner-replicate K s h
 
-pub positive-append : {ss ts : List Stage} → Positive ss → Positive ts → Positive (ss ++ ts)
-positive-append none q = q
-positive-append (h and p) q = h and positive-append p q
+pub inner-append : {ss ts : List Stage} → PositiveInner ss → PositiveInner ts → PositiveInner (ss ++ ts)
+inner-append none q = q
+inner-append (h and p) q = h and inner-append p q
 
 pub tapSum-positive : (s : Stage) → 0 < s .inner → 0 < tapSum s
 unfolding tapSum
 tapSum-positive s h = omega (arith, mul-pos {m = 2 * s .radius + 1} {n = s .inner} (omega arith) h)
 
-pub divisor-positive : {ss : List Stage} → Positive ss → 0 < divisor ss
+pub divisor-positive : {ss : List Stage} → PositiveInner ss → 0 < divisor ss
 unfolding divisor
 divisor-positive none = omega arith
 divisor-positive {ss = s ∷ ss} (h and p) = mul-pos (tapSum-positive s h) (divisor-positive p)
 
 -- the divisor of the passes so far is no larger than that of all
-pub divisor-part : {ss : List Stage} (ts : List Stage) → Positive ss → divisor ts ≤ divisor (ss ++ ts)
+pub divisor-part : {ss : List Stage} (ts : List Stage) → PositiveInner ss → divisor ts ≤ divisor (ss ++ ts)
 divisor-part {ss} ts p = rw (divisor-append ss ts, mul-comm (divisor ss) (divisor ts)) (le-mul-of-pos-right (divisor ts) (divisor-positive p))

@@ -1,5 +1,5 @@
 -- Results are linear in the samples.
--- Laws: reads-same, reads-other; result-linear; result-set (a sample set to another value), result-weights (a result as a sum over samples);
+-- Laws: reads-yes, reads-no; result-linear; result-set (a sample set to another value), result-weights (a result as a sum over samples);
 -- weight-nonneg, weight-sum.
 use mathlib.Core.Path.{_≡_, refl, sym, _∙_, ap, ap₂}
 use mathlib.Core.Logic.{_≢_}
@@ -22,22 +22,22 @@ use Rattle.meaning.specs.Kernel.{Stage, divisor}
 use Rattle.meaning.specs.Smoothing.{convolved, result, reads, weight}
 use Rattle.theory.specs.Folding.{Folding}
 use Rattle.theory.specs.Lists.{at-past}
-use Rattle.theory.specs.Convolution.{convolve-ext, convolve-const, convolve-+, convolve-*, convolve-sum, convolve-nonneg}
+use Rattle.theory.specs.Convolution.{convolved-ext, convolved-const, convolved-+, convolved-*, convolved-sum, convolved-nonneg}
 
-pub reads-same : (φ : IndexMap) (N : ℕ) {p : ℕ} (x : ℤ) → φ N x ≡ p → reads φ N p x ≡ pos 1
-reads-same φ N x h = rw (eq-eqb _ _ h)
+pub reads-yes : (φ : IndexMap) (N : ℕ) {p : ℕ} (x : ℤ) → φ N x ≡ p → reads φ N p x ≡ pos 1
+reads-yes φ N x h = rw (eq-eqb _ _ h)
 
-pub reads-other : (φ : IndexMap) (N : ℕ) {p : ℕ} (x : ℤ) → φ N x ≢ p → reads φ N p x ≡ pos 0
-reads-other φ N x h = rw (ne-eqb _ _ h)
+pub reads-no : (φ : IndexMap) (N : ℕ) {p : ℕ} (x : ℤ) → φ N x ≢ p → reads φ N p x ≡ pos 0
+reads-no φ N x h = rw (ne-eqb _ _ h)
 
 module _ (φ : IndexMap) (ss : List Stage) where
   -- h is c times f and d times g, sample by sample
   pub result-linear : (c d : ℤ) (f g h : List ℤ) → length f ≡ length h → length g ≡ length h → ((i : ℕ) → i < length h → at h i ≡ c *ℤ at f i +ℤ d *ℤ at g i) → (n : ℤ) → result φ ss h n ≡ c *ℤ result φ ss f n +ℤ d *ℤ result φ ss g n
   unfolding result ext
   result-linear c d f g h lf lg e n =
-      convolve-ext ss (λ x. rw (lf, lg) (all (φ (length h) x) (decLt (φ (length h) x) (length h)))) n
-      ∙ convolve-+ ss (λ x. c *ℤ ext φ f x) (λ x. d *ℤ ext φ g x) n
-      ∙ ap₂ _+ℤ_ (convolve-* ss c (ext φ f) n) (convolve-* ss d (ext φ g) n)
+      convolved-ext ss (λ x. rw (lf, lg) (all (φ (length h) x) (decLt (φ (length h) x) (length h)))) n
+      ∙ convolved-+ ss (λ x. c *ℤ ext φ f x) (λ x. d *ℤ ext φ g x) n
+      ∙ ap₂ _+ℤ_ (convolved-* ss c (ext φ f) n) (convolved-* ss d (ext φ g) n)
     where
       all : (i : ℕ) → Dec (i < length h) → at h i ≡ c *ℤ at f i +ℤ d *ℤ at g i
       all i (yes l) = e i l
@@ -49,35 +49,35 @@ module _ (φ : IndexMap) (ss : List Stage) where
   ext-set f p v h x = rw (length-set f p v) (go (ℕ-discrete (φ (length f) x) p))
     where
       go : Dec (φ (length f) x ≡ p) → at (set f p v) (φ (length f) x) ≡ at f (φ (length f) x) +ℤ (v -ℤ at f p) *ℤ reads φ (length f) p x
-      go (yes e) = rw (reads-same φ (length f) x e, e, getD-set-same f p v (pos 0) h) (ring 2 (λ v u. v ≗ u ⊕ (v ⊝ u) ⊗ con (pos 1)) refl v (at f p))
-      go (no e) = rw (reads-other φ (length f) x e, getD-set-other f p (φ (length f) x) v (pos 0) e, *ℤ-zero (v -ℤ at f p)) (sym (+ℤ-idr (at f (φ (length f) x))))
+      go (yes e) = rw (reads-yes φ (length f) x e, e, getD-set-same f p v (pos 0) h) (ring 2 (λ v u. v ≗ u ⊕ (v ⊝ u) ⊗ con (pos 1)) refl v (at f p))
+      go (no e) = rw (reads-no φ (length f) x e, getD-set-other f p (φ (length f) x) v (pos 0) e, *ℤ-zero (v -ℤ at f p)) (sym (+ℤ-idr (at f (φ (length f) x))))
 
   pub result-set : (f : List ℤ) (p : ℕ) (v : ℤ) → p < length f → (n : ℤ) → result φ ss (set f p v) n ≡ result φ ss f n +ℤ (v -ℤ at f p) *ℤ weight φ ss (length f) n p
   unfolding result weight
   result-set f p v h n =
-      convolve-ext ss (ext-set f p v h) n
-      ∙ convolve-+ ss (ext φ f) (λ x. (v -ℤ at f p) *ℤ reads φ (length f) p x) n
-      ∙ ap (λ z. result φ ss f n +ℤ z) (convolve-* ss (v -ℤ at f p) (reads φ (length f) p) n)
+      convolved-ext ss (ext-set f p v h) n
+      ∙ convolved-+ ss (ext φ f) (λ x. (v -ℤ at f p) *ℤ reads φ (length f) p x) n
+      ∙ ap (λ z. result φ ss f n +ℤ z) (convolved-* ss (v -ℤ at f p) (reads φ (length f) p) n)
 
   pub weight-nonneg : (N : ℕ) (n : ℤ) (p : ℕ) → pos 0 ≤ℤ weight φ ss N n p
   unfolding weight
-  weight-nonneg N n p = convolve-nonneg ss (λ x. nonneg-pos) n
+  weight-nonneg N n p = convolved-nonneg ss (λ x. nonneg-pos) n
 
 -- ---- a result as a sum over the samples
 module _ {φ : IndexMap} (F : Folding φ) (ss : List Stage) where
   -- at x one sample is read
   pick : {N : ℕ} → 0 < N → (g : ℕ → ℤ) (x : ℤ) → sum N (λ p. g p *ℤ reads φ N p x) ≡ g (φ N x)
   pick {N} h g x =
-      sum-only N (φ N x) (λ p. g p *ℤ reads φ N p x) (F .below h x) (λ p l e. *ℤ-zero-r (g p) (reads-other φ N x (λ d. e (sym d))))
-      ∙ ap (λ z. g (φ N x) *ℤ z) (reads-same φ N x refl) ∙ *ℤ-idr (g (φ N x))
+      sum-only N (φ N x) (λ p. g p *ℤ reads φ N p x) (F .below h x) (λ p l e. *ℤ-zero-r (g p) (reads-no φ N x (λ d. e (sym d))))
+      ∙ ap (λ z. g (φ N x) *ℤ z) (reads-yes φ N x refl) ∙ *ℤ-idr (g (φ N x))
 
   -- so the convolution of what is read is a sum over the samples
   over : {N : ℕ} → 0 < N → (g : ℕ → ℤ) (n : ℤ) → convolved ss (λ x. g (φ N x)) n ≡ sum N (λ p. g p *ℤ weight φ ss N n p)
   unfolding weight
   over {N} h g n =
-      convolve-ext ss (λ x. sym (pick h g x)) n
-      ∙ convolve-sum ss N (λ p x. g p *ℤ reads φ N p x) n
-      ∙ sum-ext N (λ p l. convolve-* ss (g p) (reads φ N p) n)
+      convolved-ext ss (λ x. sym (pick h g x)) n
+      ∙ convolved-sum ss N (λ p x. g p *ℤ reads φ N p x) n
+      ∙ sum-ext N (λ p l. convolved-* ss (g p) (reads φ N p) n)
 
   pub result-weights : (f : List ℤ) → 0 < length f → (n : ℤ) → result φ ss f n ≡ sum (length f) (λ p. weight φ ss (length f) n p *ℤ at f p)
   unfolding result ext
@@ -86,4 +86,4 @@ module _ {φ : IndexMap} (F : Folding φ) (ss : List Stage) where
   pub weight-sum : {N : ℕ} → 0 < N → (n : ℤ) → sum N (λ p. weight φ ss N n p) ≡ pos (divisor ss)
   weight-sum {N} h n =
       sum-ext N (λ p l. sym (*ℤ-idl (weight φ ss N n p))) ∙ sym (over h (λ p. pos 1) n)
-      ∙ convolve-const ss (pos 1) n ∙ *ℤ-idr (pos (divisor ss))
+      ∙ convolved-const ss (pos 1) n ∙ *ℤ-idr (pos (divisor ss))
