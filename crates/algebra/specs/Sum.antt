@@ -2,10 +2,11 @@
 --   sum n f      f 0 + .. + f (n − 1); 0 where n is 0
 --   sumZ s n f   f s + f (s + 1) + .. + f (s + n − 1), from a whole number s on; 0 where n is 0
 -- Laws: sum-ext, sum-none, sum-const, sum-+, sum-*, sum-neg, sum-swap;
--- sum-first, sum-split, sum-blocks, sum-shift, sum-next, sum-rev, sum-telescope; sum-wide, sum-same, sum-only;
+-- sum-first, sum-split, sum-blocks, sum-shift, sum-next, sum-rev, sum-telescope; sum-wide, sum-same, sum-only, sum-where;
 -- sum-abs, sum-nonneg, sum-positive; sumZ-shift, sumZ-split, sumZ-rev.
 use mathlib.Core.Path.{_≡_, refl, sym, _∙_, ap, ap₂}
 use mathlib.Core.Logic.{_≢_}
+use mathlib.Core.Bool.{Bool, true, false, cond}
 use Prim.Native.Nat.{ℕ, zero, suc, _+_, _*_, _-_, _≤_, _<_}
 use native.Mathlib.Nat.{add-zero, add-suc, zero-mul, suc-mul}
 use native.Mathlib.Decide.{ℕ-discrete, decLe}
@@ -13,7 +14,7 @@ use native.Mathlib.Omega.{arith}
 use lib.IntN.{ℤ, pos, negℤ, _+ℤ_, _-ℤ_, _*ℤ_, +ℤ-idr, +ℤ-idl, +ℤ-assoc, +ℤ-comm, +ℤ-invr, *ℤ-zero, zero-*ℤ, sucℤ-*ℤ, negℤ-+ℤ}
 use lib.Signed.{_≤ℤ_, _<ℤ_}
 use Rattle.algebra.specs.Difference.{rep, diff, linear}
-use Rattle.algebra.specs.Ring.{ac, *ℤ-+ℤ}
+use Rattle.algebra.specs.Ring.{ac, *ℤ-idr, *ℤ-+ℤ}
 use Rattle.algebra.specs.Order.{nonneg-pos, nonneg-+, positive-+-l, positive-+-r}
 use Rattle.algebra.specs.Size.{Abs, abs-+}
 use Rattle.algebra.specs.Expression.{_⊕_, _⊝_}
@@ -127,6 +128,10 @@ sum-only (suc n) p f l h = go (ℕ-discrete p n) (sum-only n p f)
     go : Dec (p ≡ n) → (p < n → ((i : ℕ) → i < n → i ≢ p → f i ≡ pos 0) → sum n f ≡ f p) → sum n f +ℤ f n ≡ f p
     go (yes e) ih = ap₂ _+ℤ_ (sum-none n (λ i t. h i (omega arith) (omega arith))) (ap f (sym e)) ∙ +ℤ-idl (f p)
     go (no e) ih = ap₂ _+ℤ_ (ih (omega arith) (λ i t. h i (omega arith))) (h n (omega arith) (omega arith)) ∙ +ℤ-idr (f p)
+
+-- where a test that only q passes picks the terms
+pub sum-where : (n q : ℕ) (f : ℕ → ℤ) (test : ℕ → Bool) → q < n → test q ≡ true → ((i : ℕ) → i < n → i ≢ q → test i ≡ false) → sum n (λ i. f i *ℤ pos (cond (test i) 1 0)) ≡ f q
+sum-where n q f test l e h = sum-only n q _ l (λ i k d. rw (h i k d) (*ℤ-zero (f i))) ∙ rw e (*ℤ-idr (f q))
 
 -- ---- bounds
 pub sum-abs : (n b : ℕ) {f : ℕ → ℤ} → ((i : ℕ) → i < n → Abs (f i) b) → Abs (sum n f) (n * b)

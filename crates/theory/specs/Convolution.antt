@@ -1,6 +1,7 @@
 -- The taps of a pass, and the kernel of all passes, over a row e without ends.
--- Laws: passAt-ext, passAt-const, tap-sum, passAt-swap; convolved-ext, convolved-none, convolved-cons (a stage in front is one pass more), convolved-append;
--- convolved-const, convolved-+, convolved-*, convolved-sum, convolved-nonneg;
+-- Laws: passAt-ext, passAt-const, passAt-swap, tap-sum; convolved-ext, convolved-none, convolved-cons (a stage in front is one pass more),
+-- passAt-one (one stage is one pass), convolved-append; convolved-const, convolved-+, convolved-*, convolved-sum, convolved-swap;
+-- convolved-forward, convolved-backward (a row that goes on alike around n and p), convolved-nonneg;
 -- kernel-append (of stages one after the other: the two kernels' convolution), kernel-sum.
 use mathlib.Core.Path.{_≡_, sym, _∙_, ap, ap₂}
 use mathlib.Core.List.{List, [], _∷_, _++_}
@@ -69,7 +70,6 @@ module _ (s : Stage) (ss : List Stage) (e : ℤ → ℤ) (n : ℤ) where
       ∙ within-swap _ _ (λ m j. tap s j *ℤ (kernel ss (m -ℤ j) *ℤ e (n -ℤ m)))
       ∙ within-ext _ (λ j l. within-* _ (tap s j) (λ m. kernel ss (m -ℤ j) *ℤ e (n -ℤ m)) ∙ ap (λ z. tap s j *ℤ z) (moved j l))
 
--- one stage is one pass
 pub passAt-one : (s : Stage) (e : ℤ → ℤ) (n : ℤ) → convolved (s ∷ []) e n ≡ passAt s e n
 passAt-one s e n = convolved-cons s [] e n ∙ passAt-ext s (convolved-none e) n
 
@@ -111,6 +111,15 @@ convolved-swap ss ts g n m =
     within-ext _ (λ i l. sym (within-* _ (kernel ss i) _))
     ∙ within-swap _ _ (λ i j. kernel ss i *ℤ (kernel ts j *ℤ g (n -ℤ i) (m -ℤ j)))
     ∙ within-ext _ (λ j l. within-ext _ (λ i k. *ℤ-left-comm (kernel ss i) (kernel ts j) _) ∙ within-* _ (kernel ts j) _)
+
+-- ---- where a row goes on alike around n and p, forward or backward
+pub convolved-forward : (ss : List Stage) (e : ℤ → ℤ) (n p : ℤ) → ((d : ℤ) → e (n +ℤ d) ≡ e (p +ℤ d)) → convolved ss e n ≡ convolved ss e p
+unfolding convolved
+convolved-forward ss e n p h = within-ext _ (λ m l. ap (λ z. kernel ss m *ℤ z) (h (negℤ m)))
+
+pub convolved-backward : (ss : List Stage) (e : ℤ → ℤ) (n p : ℤ) → ((d : ℤ) → e (n +ℤ d) ≡ e (p -ℤ d)) → convolved ss e n ≡ convolved ss e p
+unfolding convolved
+convolved-backward ss e n p h = within-ext _ (λ m l. ap₂ _*ℤ_ (sym (kernel-symmetric ss m)) (h (negℤ m))) ∙ within-neg _ (λ m. kernel ss m *ℤ e (p -ℤ m))
 
 -- ---- a row without negative numbers
 pub convolved-nonneg : (ss : List Stage) {e : ℤ → ℤ} → ((x : ℤ) → pos 0 ≤ℤ e x) → (n : ℤ) → pos 0 ≤ℤ convolved ss e n

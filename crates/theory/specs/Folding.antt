@@ -1,7 +1,8 @@
 -- What an index map must be for the laws.
---   Follows φ n p   around n the map φ reads as it does around p, forward or backward
---   Folding φ       of N samples, φ always picks one; it picks n at n; around every n it goes on as around what it picks there
---   Nearness φ      what φ reads as sample p stands no nearer to n than p does
+--   Follows φ n p   around n the map φ reads as it does around p, `forward` or `backward`
+--   Folding φ       of N samples φ always picks one (`below`); it picks n at n (`here`); around every n it goes on as around what
+--                   it picks there (`follows`)
+--   Nearness φ      what φ reads as sample p stands no nearer to n than p does (`nearest`)
 -- The law that passes are one convolution needs a Folding. What lies within reach needs Nearness too.
 use mathlib.Core.Path.{_≡_}
 use Prim.Native.Nat.{ℕ, _<_, _≤_}

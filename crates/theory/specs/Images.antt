@@ -3,7 +3,6 @@
 -- Laws: strided-next (the tap at d, and the others), strided-beyond (0 where d is past the kernel's width);
 -- weight-images (four strided sums: the images of p lie so far from n, on either side, and every 2N on).
 use mathlib.Core.Path.{_≡_, sym, _∙_, ap, ap₂}
-use mathlib.Core.Logic.{_≢_}
 use mathlib.Core.Bool.{cond}
 use mathlib.Core.List.{List}
 use Prim.Native.Nat.{ℕ, suc, _+_, _*_, _-_, _≤_, _<_}
@@ -13,14 +12,14 @@ use lib.Dec.{eqb}
 use lib.IntN.{ℤ, pos, negsuc, negℤ, natAbs, _+ℤ_, _-ℤ_, _*ℤ_, +ℤ-idr, +ℤ-assoc}
 use borrow.Author.Tests.{eq-eqb, ne-eqb}
 use Rattle.algebra.specs.Difference.{minus, rep, diff, linear}
-use Rattle.algebra.specs.Ring.{ac, sub-back, *ℤ-idr, *ℤ-zero-l, *ℤ-zero-r}
+use Rattle.algebra.specs.Ring.{ac, sub-back, *ℤ-zero-l}
 use Rattle.algebra.specs.Order.{of+, of-neg}
 use Rattle.algebra.specs.Size.{of-abs, natAbs-neg, natAbs-sub}
-use Rattle.algebra.specs.Sum.{sum, sum-ext, sum-none, sum-+, sum-next, sum-split, sum-blocks, sum-only}
+use Rattle.algebra.specs.Sum.{sum, sum-ext, sum-none, sum-+, sum-next, sum-split, sum-blocks, sum-where}
 use Rattle.algebra.specs.Within.{sumWithin, beyond-*, within-ext, within-halves, within-neg, within-shift}
 use Rattle.meaning.specs.Extension.{reflect, fold}
 use Rattle.meaning.specs.Kernel.{Stage, kernel, width, reach}
-use Rattle.meaning.specs.Smoothing.{convolved, weight, apart}
+use Rattle.meaning.specs.Smoothing.{convolved, reads, weight, apart}
 use Rattle.theory.specs.Kernel.{kernel-symmetric, kernel-beyond, kernel-outside}
 use Rattle.theory.specs.HalfSample.{reflect-min, fold-at, fold-negsuc}
 
@@ -37,33 +36,30 @@ enough : (w N : ℕ) → 0 < N → w + 2 * N ≤ suc w * (2 * N)
 enough w N h = omega (arith, mul-le-mul-left w h)
 
 -- ---- over whole periods: in each, p and its mirror read p
--- 1 where i is p, as in `reads`
-abbrev hit : ℕ → ℕ → ℤ
-hit i p = pos (cond (eqb i p) 1 0)
-
-sum-hit : (f : ℕ → ℕ) (g : ℕ → ℤ) (p n q : ℕ) → q < n → f q ≡ p → ((t : ℕ) → t < n → t ≢ q → f t ≢ p) → sum n (λ t. g t *ℤ hit (f t) p) ≡ g q
-sum-hit f g p n q l e h = sum-only n q _ l (λ t k d. *ℤ-zero-r (g t) (rw (ne-eqb (f t) p (h t k d)))) ∙ rw (eq-eqb (f q) p e) (*ℤ-idr (g q))
-
 module _ (N p : ℕ) (h : p < N) where
-  period : (g : ℕ → ℤ) → sum (2 * N) (λ t. g t *ℤ hit (reflect N t) p) ≡ g p +ℤ g (2 * N - suc p)
-  period g = ap (λ n. sum n (λ t. g t *ℤ hit (reflect N t) p)) twice ∙ sum-split N N _ ∙ ap₂ _+ℤ_ low (high ∙ ap g mirror)
+  period : (g : ℕ → ℤ) → sum (2 * N) (λ t. g t *ℤ pos (cond (eqb (reflect N t) p) 1 0)) ≡ g p +ℤ g (2 * N - suc p)
+  period g = ap (λ n. sum n (λ t. g t *ℤ pos (cond (eqb (reflect N t) p) 1 0))) twice ∙ sum-split N N _ ∙ ap₂ _+ℤ_ low (high ∙ ap g mirror)
     where
       twice : 2 * N ≡ N + N
       twice = omega arith
 
-      low : sum N (λ t. g t *ℤ hit (reflect N t) p) ≡ g p
-      low = sum-hit (reflect N) g p N p h (omega (arith, reflect-min N p)) (λ t l d. omega (arith, reflect-min N t))
+      -- one t of the range is read as p
+      read : (f : ℕ → ℕ) (g : ℕ → ℤ) (q : ℕ) → q < N → f q ≡ p → ((t : ℕ) → t < N → f t ≡ p → t ≡ q) → sum N (λ t. g t *ℤ pos (cond (eqb (f t) p) 1 0)) ≡ g q
+      read f g q l e k = sum-where N q g (λ t. eqb (f t) p) l (eq-eqb (f q) p e) (λ t m d. ne-eqb (f t) p (λ i. d (k t m i)))
 
-      high : sum N (λ t. g (N + t) *ℤ hit (reflect N (N + t)) p) ≡ g (N + (N - suc p))
-      high = sum-hit (λ t. reflect N (N + t)) (λ t. g (N + t)) p N (N - suc p) (omega arith) (omega (arith, reflect-min N (N + (N - suc p)))) (λ t l d. omega (arith, reflect-min N (N + t)))
+      low : sum N (λ t. g t *ℤ pos (cond (eqb (reflect N t) p) 1 0)) ≡ g p
+      low = read (reflect N) g p h (omega (arith, reflect-min N p)) (λ t l e. omega (arith, reflect-min N t))
+
+      high : sum N (λ t. g (N + t) *ℤ pos (cond (eqb (reflect N (N + t)) p) 1 0)) ≡ g (N + (N - suc p))
+      high = read (λ t. reflect N (N + t)) (λ t. g (N + t)) (N - suc p) (omega arith) (omega (arith, reflect-min N (N + (N - suc p)))) (λ t l e. omega (arith, reflect-min N (N + t)))
 
       mirror : N + (N - suc p) ≡ 2 * N - suc p
       mirror = omega arith
 
-  periods : (k : ℕ) (g : ℕ → ℤ) → sum (k * (2 * N)) (λ x. g x *ℤ hit (fold N (pos x)) p) ≡ sum k (λ i. g (i * (2 * N) + p)) +ℤ sum k (λ i. g (i * (2 * N) + (2 * N - suc p)))
+  periods : (k : ℕ) (g : ℕ → ℤ) → sum (k * (2 * N)) (λ x. g x *ℤ reads fold N p (pos x)) ≡ sum k (λ i. g (i * (2 * N) + p)) +ℤ sum k (λ i. g (i * (2 * N) + (2 * N - suc p)))
   periods k g =
       sum-blocks k (2 * N) _
-      ∙ sum-ext k (λ i l. sum-ext (2 * N) (λ t m. ap (λ j. g (i * (2 * N) + t) *ℤ hit j p) (fold-at N i m)) ∙ period (λ t. g (i * (2 * N) + t)))
+      ∙ sum-ext k (λ i l. sum-ext (2 * N) (λ t m. ap (λ j. g (i * (2 * N) + t) *ℤ pos (cond (eqb j p) 1 0)) (fold-at N i m)) ∙ period (λ t. g (i * (2 * N) + t)))
       ∙ sum-+ k _ _
 
 -- ---- the taps at e, e + 2N, e + 4N, .. of a whole e
@@ -106,37 +102,37 @@ module _ (ss : List Stage) (N : ℕ) where
   -- ---- the weight
   module _ (n p : ℕ) (hn : n < N) (hp : p < N) where
     -- a place x is weighed by the tap of n - x, if it reads p
-    at : ℤ → ℤ
-    at x = kernel ss (pos n -ℤ x) *ℤ hit (fold N x) p
+    placed : ℤ → ℤ
+    placed x = kernel ss (pos n -ℤ x) *ℤ reads fold N p x
 
-    over-places : (R : ℕ) → width ss + n ≤ R → weight fold ss N (pos n) p ≡ sumWithin R at
-    unfolding weight convolved at
+    over-places : (R : ℕ) → width ss + n ≤ R → weight fold ss N (pos n) p ≡ sumWithin R placed
+    unfolding weight convolved placed
     over-places R l =
         sym (within-shift (width ss) R f (negℤ (pos n)) (rw (natAbs-neg (pos n)) l) (beyond-* _ (kernel-beyond ss)))
         ∙ sym (within-neg R _)
-        ∙ within-ext R (λ x t. ap f (there x) ∙ ap (λ y. kernel ss (pos n -ℤ x) *ℤ hit (fold N y) p) (sub-back (pos n) x))
+        ∙ within-ext R (λ x t. ap f (there x) ∙ ap (λ y. kernel ss (pos n -ℤ x) *ℤ reads fold N p y) (sub-back (pos n) x))
       where
         f : ℤ → ℤ
-        f m = kernel ss m *ℤ hit (fold N (pos n -ℤ m)) p
+        f m = kernel ss m *ℤ reads fold N p (pos n -ℤ m)
 
         there : (x : ℤ) → negℤ x -ℤ negℤ (pos n) ≡ pos n -ℤ x
         there x = rw (rep x) (simp diff (omega linear))
 
     taps : ℕ → (ℕ → ℤ) → ℤ
-    taps M f = sum M (λ x. kernel ss (f x) *ℤ hit (fold N (pos x)) p)
+    taps M f = sum M (λ x. kernel ss (f x) *ℤ reads fold N p (pos x))
 
     -- x and -1 - x read alike
     from-0 : (M : ℕ) → width ss + n < M → weight fold ss N (pos n) p ≡ taps M (λ x. negℤ (pos n -ℤ pos x)) +ℤ taps M (λ x. pos n -ℤ negsuc x)
-    unfolding at taps sum
-    from-0 M l = over-places M (omega arith) ∙ within-halves M at ∙ ap₂ _+ℤ_ (ap₂ _+ℤ_ (sum-ext M above) last ∙ +ℤ-idr (taps M (λ x. negℤ (pos n -ℤ pos x)))) (sum-ext M below)
+    unfolding placed taps sum
+    from-0 M l = over-places M (omega arith) ∙ within-halves M placed ∙ ap₂ _+ℤ_ (ap₂ _+ℤ_ (sum-ext M above) last ∙ +ℤ-idr (taps M (λ x. negℤ (pos n -ℤ pos x)))) (sum-ext M below)
       where
-        above : (x : ℕ) → x < M → at (pos x) ≡ kernel ss (negℤ (pos n -ℤ pos x)) *ℤ hit (fold N (pos x)) p
+        above : (x : ℕ) → x < M → placed (pos x) ≡ kernel ss (negℤ (pos n -ℤ pos x)) *ℤ reads fold N p (pos x)
         above x t = rw (kernel-symmetric ss (pos n -ℤ pos x))
 
-        below : (x : ℕ) → x < M → at (negsuc x) ≡ kernel ss (pos n -ℤ negsuc x) *ℤ hit (fold N (pos x)) p
+        below : (x : ℕ) → x < M → placed (negsuc x) ≡ kernel ss (pos n -ℤ negsuc x) *ℤ reads fold N p (pos x)
         below x t = rw (fold-negsuc N (omega arith) x)
 
-        last : at (pos M) ≡ pos 0
+        last : placed (pos M) ≡ pos 0
         last = *ℤ-zero-l _ (kernel-beyond ss (pos n -ℤ pos M) (omega (arith, natAbs-sub n M)))
 
     by-images : (f : ℕ → ℤ) (d e : ℤ) → ((i : ℕ) → f (i * (2 * N) + p) ≡ d +ℤ pos (i * (2 * N))) → ((i : ℕ) → f (i * (2 * N) + (2 * N - suc p)) ≡ e +ℤ pos (i * (2 * N)))

@@ -1,18 +1,20 @@
--- The kernel of a list of stages.
---   far m j   what is farther out than w + R is, moved by j of at most R, farther out than w
--- Laws: tap-inside, tap-edge, tap-symmetric, tap-nonneg, tap-split;
--- kernel-none, kernel-cons (a stage more is a pass over the kernel), kernel-symmetric, kernel-nonneg, kernel-beyond.
+-- One pass's taps and the kernel of a list of stages: symmetric, never negative, 0 beyond the reach.
+-- Laws: tap-inside, tap-edge, tap-symmetric, tap-nonneg, tap-split; tapReach-width, tap-outside (0 beyond its reach), tap-positive;
+-- kernel-none, kernel-cons (a stage more is a pass over the kernel), kernel-symmetric, kernel-nonneg;
+-- reach-width, kernel-outside (0 beyond the reach), kernel-beyond (so beyond the width).
 use mathlib.Core.Path.{_≡_, refl, sym, _∙_, ap, ap₂}
+use mathlib.Core.Bool.{cond}
 use mathlib.Core.List.{List, [], _∷_}
 use Prim.Native.Nat.{ℕ, suc, _+_, _*_, _≤_, _<_}
 use native.Mathlib.Nat.{le-refl}
 use native.Mathlib.Decide.{ℕ-discrete, decLe}
 use native.Mathlib.Omega.{arith}
+use lib.Dec.{eqb}
 use lib.IntN.{ℤ, pos, negsuc, negℤ, natAbs, _+ℤ_, _-ℤ_, _*ℤ_, negℤ-+ℤ, negℤ-negℤ}
-use lib.Signed.{_≤ℤ_}
+use lib.Signed.{_≤ℤ_, _<ℤ_}
 use borrow.Author.Tests.{le-leb, lt-leb, eq-eqb, ne-eqb}
 use Rattle.algebra.specs.Ring.{*ℤ-zero-l, *ℤ-zero-r, *ℤ-+ℤ}
-use Rattle.algebra.specs.Order.{nonneg-pos, nonneg-*}
+use Rattle.algebra.specs.Order.{nonneg-pos, nonneg-*, positive-pos}
 use Rattle.algebra.specs.Size.{natAbs-neg, natAbs-back}
 use Rattle.algebra.specs.Within.{sumWithin, Beyond, within-ext, within-none, within-*, within-neg, within-nonneg}
 use Rattle.meaning.specs.Kernel.{Stage, tap, kernel, width, tapReach, reach, passAt}
@@ -45,11 +47,11 @@ tap-split s g = ap₂ _+ℤ_
     r = s .radius
 
 -- ---- how far its taps go
-pub data Edge (s : Stage) : Type 0 where
+data Edge (s : Stage) : Type 0 where
   plain : s .edge ≡ 0 → tapReach s ≡ s .radius → Edge s
   edged : 0 < s .edge → tapReach s ≡ suc (s .radius) → Edge s
 
-pub edge : (s : Stage) → Edge s
+edge : (s : Stage) → Edge s
 edge s = go (ℕ-discrete (s .edge) 0)
   where
     go : Dec (s .edge ≡ 0) → Edge s
@@ -74,10 +76,18 @@ tap-outside s m h = go (edge s) (ℕ-discrete (natAbs m) (suc (s .radius)))
     go (plain e i) (no j) = outside (omega arith)
     go (edged e i) d = outside (omega arith)
 
+pub tap-positive : (s : Stage) → 0 < s .inner → (m : ℤ) → natAbs m ≤ tapReach s → pos 0 <ℤ tap s m
+tap-positive s b m h = go (edge s) (decLe (natAbs m) (s .radius))
+  where
+    go : Edge s → Dec (natAbs m ≤ s .radius) → pos 0 <ℤ tap s m
+    go d (yes l) = rw (tap-inside s m l) (positive-pos b)
+    go (plain e i) (no l) = let no : ⊥ = omega arith in absurd no
+    go (edged e i) (no l) = rw (tap-edge s m (omega arith)) (positive-pos e)
+
 -- ---- the kernel
-pub kernel-none : kernel [] (pos 0) ≡ pos 1
+pub kernel-none : (m : ℤ) → kernel [] m ≡ pos (cond (eqb (natAbs m) 0) 1 0)
 unfolding kernel
-kernel-none = refl
+kernel-none m = refl
 
 pub kernel-cons : (s : Stage) (ss : List Stage) (m : ℤ) → kernel (s ∷ ss) m ≡ passAt s (kernel ss) m
 unfolding kernel passAt

@@ -1,14 +1,14 @@
 -- Lists made of their elements, and how large those are.
---   Sized M f   no element of f is larger than M; past its end f reads as 0
--- Laws: length-listOf, at-listOf, listOf-ext, listOf-at, listOf-last; at-past;
--- sized, sized-weaken, sized-listOf, sized-set.
+--   Sized M f   no element of f is larger than M; its field `size i` holds past the end too, where f reads as 0
+-- Laws: length-listOf, at-listOf, listOf-ext, listOf-at (a list is that of its elements); at-past;
+-- sized (from the elements there are), sized-weaken, sized-listOf.
 use mathlib.Core.Path.{_≡_, refl, sym, _∙_, ap, ap₂}
-use mathlib.Core.List.{List, [], _∷_, _++_}
+use mathlib.Core.List.{List, _∷_}
 use Prim.Native.Nat.{ℕ, zero, suc, _≤_, _<_}
-use native.Mathlib.Decide.{ℕ-discrete, decLt}
+use native.Mathlib.Decide.{decLt}
 use native.Mathlib.Omega.{arith}
-use lib.ListN.{length, set, List·getD-eq-default}
-use lib.Seq.{getD-set-same, getD-set-other, ext-getD}
+use lib.ListN.{length, List·getD-eq-default}
+use lib.Seq.{ext-getD}
 use lib.IntN.{ℤ, pos}
 use Rattle.algebra.specs.Size.{Abs, abs-weaken}
 use Rattle.meaning.specs.Extension.{at}
@@ -31,14 +31,8 @@ unfolding listOf
 listOf-ext zero e = refl
 listOf-ext (suc n) e = ap₂ _∷_ (e 0 (omega arith)) (listOf-ext n (λ i l. e (suc i) (omega arith)))
 
--- a list is that of its elements
 pub listOf-at : (n : ℕ) (f : List ℤ) → length f ≡ n → listOf n (at f) ≡ f
 listOf-at n f e = ext-getD (pos 0) _ f (length-listOf n (at f) ∙ sym e) (λ i l. at-listOf n (at f) i (omega (arith, length-listOf n (at f))))
-
-pub listOf-last : (n : ℕ) (g : ℕ → ℤ) → listOf (suc n) g ≡ listOf n g ++ (g n ∷ [])
-unfolding listOf
-listOf-last zero g = refl
-listOf-last (suc n) g = ap (λ l. g 0 ∷ l) (listOf-last n (λ i. g (suc i)))
 
 pub at-past : (f : List ℤ) (i : ℕ) → length f ≤ i → at f i ≡ pos 0
 at-past f i h = List·getD-eq-default f (pos 0) h
@@ -59,10 +53,3 @@ sized-weaken s l = record { size = λ i. abs-weaken (s .size i) l }
 
 pub sized-listOf : {M : ℕ} (n : ℕ) (g : ℕ → ℤ) → ((i : ℕ) → i < n → Abs (g i) M) → Sized M (listOf n g)
 sized-listOf n g h = sized (listOf n g) (λ i l. rw (at-listOf n g i (omega (arith, length-listOf n g))) (h i (omega (arith, length-listOf n g))))
-
-pub sized-set : {M : ℕ} (f : List ℤ) (p : ℕ) (v : ℤ) → p < length f → Sized M f → Abs v M → Sized M (set f p v)
-sized-set {M} f p v l s h = record { size = λ i. go i (ℕ-discrete i p) }
-  where
-    go : (i : ℕ) → Dec (i ≡ p) → Abs (at (set f p v) i) M
-    go i (yes e) = rw (e, getD-set-same f p v (pos 0) l) h
-    go i (no e) = rw (getD-set-other f p i v (pos 0) e) (s .size i)

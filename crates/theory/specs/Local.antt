@@ -1,16 +1,18 @@
 -- What a sample moves, and what a result depends on: exactly what lies within reach.
--- Laws: near-yes, near-no; weight-outside, weight-positive; result-local.
-use mathlib.Core.Path.{_≡_, sym, _∙_}
+-- Laws: near-yes, near-no, near-true, near-false (the test and the fact); weight-outside, weight-positive;
+-- set-outside, set-inside (of a sample set to another value), result-local.
+use mathlib.Core.Path.{_≡_, sym, _∙_, ap}
+use mathlib.Core.Logic.{_≢_}
 use mathlib.Core.Bool.{true, false}
 use mathlib.Core.List.{List}
 use Prim.Native.Nat.{ℕ, _≤_, _<_}
 use native.Mathlib.Decide.{decLt}
 use native.Mathlib.Omega.{arith}
-use lib.ListN.{length}
-use lib.IntN.{ℤ, pos, natAbs, _-ℤ_, *ℤ-zero}
+use lib.ListN.{length, set}
+use lib.IntN.{ℤ, pos, natAbs, _+ℤ_, _-ℤ_, _*ℤ_, *ℤ-zero, zero-*ℤ, +ℤ-idr}
 use lib.Signed.{_<ℤ_}
-use borrow.Author.Tests.{le-leb, lt-leb, leb-true}
-use Rattle.algebra.specs.Order.{nonneg-pos, positive-pos}
+use borrow.Author.Tests.{le-leb, lt-leb, leb-true, leb-false}
+use Rattle.algebra.specs.Order.{zarith, of+, of-, nonneg-pos, positive-pos, *ℤ-cancel-r}
 use Rattle.algebra.specs.Size.{natAbs-sub}
 use Rattle.meaning.specs.Extension.{at, IndexMap, ext}
 use Rattle.meaning.specs.Kernel.{Stage, reach, divisor}
@@ -20,7 +22,7 @@ use Rattle.theory.specs.Lists.{at-past}
 use Rattle.theory.specs.Convolution.{convolved-const}
 use Rattle.theory.specs.Stages.{PositiveInner}
 use Rattle.theory.specs.Reach.{convolved-local, convolved-positive}
-use Rattle.theory.specs.Weights.{reads-yes, reads-no}
+use Rattle.theory.specs.Weights.{reads-yes, reads-no, result-set}
 
 pub near-yes : (ss : List Stage) (n p : ℕ) → apart n p ≤ reach ss → near ss n p ≡ true
 unfolding near
@@ -34,10 +36,14 @@ pub near-true : (ss : List Stage) (n p : ℕ) → near ss n p ≡ true → apart
 unfolding near
 near-true ss n p h = leb-true _ _ h
 
+pub near-false : (ss : List Stage) (n p : ℕ) → near ss n p ≡ false → reach ss < apart n p
+unfolding near
+near-false ss n p h = leb-false _ _ h
+
 -- what reads p stands no nearer to n than p does
-pub weight-outside : {φ : IndexMap} → Nearness φ → (ss : List Stage) {N n : ℕ} → n < N → (p : ℕ) → reach ss < apart n p → weight φ ss N (pos n) p ≡ pos 0
+pub weight-outside : {φ : IndexMap} → Nearness φ → (ss : List Stage) {N : ℕ} (n p : ℕ) → n < N → reach ss < apart n p → weight φ ss N (pos n) p ≡ pos 0
 unfolding weight
-weight-outside {φ} C ss {N} {n} h p far =
+weight-outside {φ} C ss {N} n p h far =
     convolved-local ss (pos n) (λ x l. reads-no φ N x (λ e. other x l (rw e at (C .nearest h x))))
     ∙ convolved-const ss (pos 0) (pos n) ∙ *ℤ-zero (pos (divisor ss))
   where
@@ -45,9 +51,9 @@ weight-outside {φ} C ss {N} {n} h p far =
     other x l k = omega arith
 
 -- p itself reads p
-pub weight-positive : {φ : IndexMap} → Folding φ → {ss : List Stage} → PositiveInner ss → {N p : ℕ} → p < N → (n : ℕ) → apart n p ≤ reach ss → pos 0 <ℤ weight φ ss N (pos n) p
+pub weight-positive : {φ : IndexMap} → Folding φ → {ss : List Stage} → PositiveInner ss → {N : ℕ} (n p : ℕ) → p < N → apart n p ≤ reach ss → pos 0 <ℤ weight φ ss N (pos n) p
 unfolding weight
-weight-positive {φ} F b {N} {p} h n l = convolved-positive b (λ x. nonneg-pos) (pos n) (pos p) (rw (natAbs-sub n p) l) (rw (reads-yes φ N (pos p) (F .here h)) (positive-pos (omega arith)))
+weight-positive {φ} F b {N} n p h l = convolved-positive b (λ x. nonneg-pos) (pos n) (pos p) (rw (natAbs-sub n p) l) (rw (reads-yes φ N (pos p) (F .here h)) (positive-pos (omega arith)))
 
 pub result-local : {φ : IndexMap} → Nearness φ → (ss : List Stage) (f g : List ℤ) → length f ≡ length g → {n : ℕ} → n < length f → ((p : ℕ) → p < length f → apart n p ≤ reach ss → at f p ≡ at g p) → result φ ss f (pos n) ≡ result φ ss g (pos n)
 unfolding result ext
@@ -56,3 +62,13 @@ result-local {φ} C ss f g e {n} h k = convolved-local ss (pos n) (λ x l. rw (�
     go : (x : ℤ) {p : ℕ} → natAbs (pos n -ℤ x) ≤ reach ss → apart n p ≤ natAbs (pos n -ℤ x) → Dec (p < length f) → at f p ≡ at g p
     go x {p} l q (yes t) = k p t (omega arith)
     go x {p} l q (no t) = at-past f p (omega arith) ∙ sym (at-past g p (omega arith))
+
+-- ---- a sample set to another value moves exactly the results within reach
+pub set-outside : {φ : IndexMap} → Nearness φ → (ss : List Stage) (f : List ℤ) (n p : ℕ) (v : ℤ) → n < length f → p < length f → reach ss < apart n p → result φ ss (set f p v) (pos n) ≡ result φ ss f (pos n)
+set-outside {φ} C ss f n p v hn hp l = result-set φ ss f p v hp (pos n) ∙ ap (λ z. result φ ss f (pos n) +ℤ (v -ℤ at f p) *ℤ z) (weight-outside C ss n p hn l) ∙ ap (λ z. result φ ss f (pos n) +ℤ z) (*ℤ-zero (v -ℤ at f p)) ∙ +ℤ-idr (result φ ss f (pos n))
+
+pub set-inside : {φ : IndexMap} → Folding φ → {ss : List Stage} → PositiveInner ss → (f : List ℤ) (n p : ℕ) (v : ℤ) → p < length f → apart n p ≤ reach ss → v ≢ at f p → result φ ss (set f p v) (pos n) ≢ result φ ss f (pos n)
+set-inside {φ} F {ss} b f n p v h l d e = d (moved v (at f p) (weight φ ss (length f) (pos n) p) (result φ ss f (pos n)) (weight-positive F b n p h l) (sym (result-set φ ss f p v h (pos n)) ∙ e))
+  where
+    moved : (v u w r : ℤ) → pos 0 <ℤ w → r +ℤ (v -ℤ u) *ℤ w ≡ r → v ≡ u
+    moved v u w r h e = let z : v -ℤ u ≡ pos 0 = *ℤ-cancel-r h (omega (zarith, of+ r ((v -ℤ u) *ℤ w)) ∙ sym (zero-*ℤ w)) in omega (zarith, of- v u)

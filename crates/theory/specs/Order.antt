@@ -1,16 +1,16 @@
 -- The order of stages does not matter.
 --   Reordered ss ts   ts has the stages of ss, in some order
 -- Laws: append-order (which of two lists comes first);
--- width-order, reach-order, divisor-order, convolved-order, kernel-order, result-order, results-order.
+-- reach-order, convolved-order, divisor-order, kernel-order, result-order, results-order.
 use mathlib.Core.Path.{_≡_, refl, sym, _∙_, ap}
 use mathlib.Core.List.{List, [], _∷_, _++_, append-nil}
-use Prim.Native.Nat.{ℕ, _+_}
+use Prim.Native.Nat.{_+_}
 use native.Mathlib.Nat.{mul-one}
 use native.Mathlib.Omega.{arith}
 use lib.ListN.{length}
 use lib.IntN.{ℤ, pos, natAbs}
 use Rattle.meaning.specs.Extension.{IndexMap, ext}
-use Rattle.meaning.specs.Kernel.{Stage, kernel, width, reach, tapSum, divisor, passAt}
+use Rattle.meaning.specs.Kernel.{Stage, kernel, reach, divisor, passAt}
 use Rattle.meaning.specs.Smoothing.{convolved, result, results}
 use Rattle.theory.specs.Convolution.{passAt-ext, passAt-swap, convolved-cons, convolved-const, kernel-append}
 use Rattle.theory.specs.Lists.{listOf-ext}
@@ -33,20 +33,12 @@ pub append-order : (ss ts : List Stage) → Reordered (ss ++ ts) (ts ++ ss)
 append-order [] ts = rw (append-nil ts) (reordered ts)
 append-order (s ∷ ss) ts = then (keep s (append-order ss ts)) (sink s ts ss)
 
--- a number that does not see two neighbours swapped
-number-order : (g : List Stage → ℕ) → ((s : Stage) (ss ts : List Stage) → g ss ≡ g ts → g (s ∷ ss) ≡ g (s ∷ ts)) → ((s t : Stage) (ss : List Stage) → g (s ∷ t ∷ ss) ≡ g (t ∷ s ∷ ss)) → {ss ts : List Stage} → Reordered ss ts → g ss ≡ g ts
-number-order g k w empty = refl
-number-order g k w (keep s o) = k s _ _ (number-order g k w o)
-number-order g k w (swap s t ss) = w s t ss
-number-order g k w (then o q) = number-order g k w o ∙ number-order g k w q
-
-pub width-order : {ss ts : List Stage} → Reordered ss ts → width ss ≡ width ts
-unfolding width
-width-order o = number-order width (λ s ss ts e. omega arith) (λ s t ss. omega arith) o
-
 pub reach-order : {ss ts : List Stage} → Reordered ss ts → reach ss ≡ reach ts
 unfolding reach
-reach-order o = number-order reach (λ s ss ts e. omega arith) (λ s t ss. omega arith) o
+reach-order empty = refl
+reach-order (keep s o) = rw (reach-order o)
+reach-order (swap s t ss) = omega arith
+reach-order (then o q) = reach-order o ∙ reach-order q
 
 pub convolved-order : {ss ts : List Stage} → Reordered ss ts → (e : ℤ → ℤ) (n : ℤ) → convolved ss e n ≡ convolved ts e n
 convolved-order empty e n = refl

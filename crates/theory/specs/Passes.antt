@@ -2,24 +2,22 @@
 --   repeated K g f   g (g (.. f)), K times
 -- A symmetric kernel commutes with a folding, so the extension of the results is the result at every whole n (ext-results).
 -- Then a stage in front is one pass more (results-cons), and K equal stages are K passes (results-replicate).
--- Laws: length-results, at-results, length-pass; result-none, result-cons, result-append;
+-- Laws: length-results, at-results, length-pass, at-pass; result-none, result-cons, result-append;
 -- result-fold, ext-results; results-none, results-cons, results-append, results-replicate.
-use mathlib.Core.Path.{_≡_, refl, sym, _∙_, ap, ap₂}
+use mathlib.Core.Path.{_≡_, refl, sym, _∙_, ap}
 use mathlib.Core.List.{List, [], _∷_, _++_}
 use Prim.Native.Nat.{ℕ, zero, suc, _<_}
 use native.Mathlib.Omega.{arith}
 use lib.ListN.{length, replicate}
-use lib.IntN.{ℤ, pos, negℤ, _-ℤ_, _*ℤ_, *ℤ-zero}
-use Rattle.algebra.specs.Within.{within-ext, within-neg}
+use lib.IntN.{ℤ, pos, _*ℤ_, *ℤ-zero}
 use Rattle.meaning.specs.Extension.{at, IndexMap, ext}
-use Rattle.meaning.specs.Kernel.{Stage, kernel, divisor, passAt}
+use Rattle.meaning.specs.Kernel.{Stage, divisor, passAt}
 use Rattle.meaning.specs.Smoothing.{convolved, result, results, pass}
-use Rattle.theory.specs.Kernel.{kernel-symmetric}
-use Rattle.theory.specs.Convolution.{passAt-ext, convolved-none, convolved-const, convolved-cons, convolved-append}
+use Rattle.theory.specs.Convolution.{passAt-ext, convolved-none, convolved-forward, convolved-backward, convolved-const, convolved-cons, convolved-append}
 use Rattle.theory.specs.Lists.{length-listOf, at-listOf, listOf-ext, listOf-at, at-past}
 use Rattle.theory.specs.Folding.{Folding, Follows, forward, backward}
 
-unfoldable pub repeated : ℕ → (List ℤ → List ℤ) → List ℤ → List ℤ
+abbrev pub repeated : ℕ → (List ℤ → List ℤ) → List ℤ → List ℤ
 repeated zero g f = f
 repeated (suc K) g f = g (repeated K g f)
 
@@ -55,11 +53,9 @@ module _ (φ : IndexMap) where
   result-append ss ts f n = convolved-append ss ts (ext φ f) n
 
   follows : (ss : List Stage) (f : List ℤ) (n : ℤ) (p : ℕ) → Follows (φ (length f)) n p → result φ ss f n ≡ result φ ss f (pos p)
-  unfolding result convolved ext
-  follows ss f n p (forward h) = within-ext _ (λ m l. ap (λ i. kernel ss m *ℤ at f i) (h (negℤ m)))
-  follows ss f n p (backward h) =
-      within-ext _ (λ m l. ap₂ (λ k i. k *ℤ at f i) (sym (kernel-symmetric ss m)) (h (negℤ m)))
-      ∙ within-neg _ (λ m. kernel ss m *ℤ at f (φ (length f) (pos p -ℤ m)))
+  unfolding result ext
+  follows ss f n p (forward h) = convolved-forward ss (ext φ f) n (pos p) (λ d. ap (at f) (h d))
+  follows ss f n p (backward h) = convolved-backward ss (ext φ f) n (pos p) (λ d. ap (at f) (h d))
 
   result-empty : (ss : List Stage) (n : ℤ) → result φ ss [] n ≡ pos 0
   unfolding result ext
@@ -90,6 +86,5 @@ module _ {φ : IndexMap} (F : Folding φ) where
   results-append (s ∷ ss) ts f = results-cons s (ss ++ ts) f ∙ ap (pass φ s) (results-append ss ts f) ∙ sym (results-cons s ss (results φ ts f))
 
   pub results-replicate : (K : ℕ) (s : Stage) (f : List ℤ) → results φ (replicate K s) f ≡ repeated K (pass φ s) f
-  unfolding repeated
   results-replicate zero s f = results-none f
   results-replicate (suc K) s f = results-cons s (replicate K s) f ∙ ap (pass φ s) (results-replicate K s f)

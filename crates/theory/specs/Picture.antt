@@ -1,13 +1,14 @@
 -- Pictures: smoothing across and down, in either order, gives the double sum; and how large it grows.
 --   Keeps op   op leaves a series as long as it is
--- Laws: length-grid, cell-grid, grid-ext, cells-ext, grid-cell;
+-- Laws: length-grid, cell-grid, grid-ext, cells-ext (a picture is known by its cells), grid-cell;
+-- length-row, length-column, at-row, at-column; length-across, length-down, length-picture, cell-across, cell-down, cell-picture;
 -- across-ext, down-ext, across-across, down-down (one after another), row-across, column-down (what was done to each row is found in each row);
 -- across-none, across-cons, down-none, down-cons (a stage in front is one pass more over every row);
 -- rows-first, columns-first, either-first; across-size, down-size, picture-size.
 use mathlib.Core.Path.{_≡_, refl, sym, _∙_, ap, ap₂}
 use mathlib.Core.List.{List, [], _∷_, _++_}
 use Prim.Native.Nat.{ℕ, zero, suc, _+_, _*_, _/_, _%_, _<_}
-use native.Mathlib.Nat.{zero-mul, div-add-mod', mod-lt, div-lt-iff-lt-mul, mul-assoc}
+use native.Mathlib.Nat.{mul-zero, div-add-mod', mod-lt, div-lt-iff-lt-mul, mul-assoc}
 use native.Mathlib.Omega.{arith}
 use lib.ListN.{length, length-append, List·getD-append}
 use lib.Seq.{getD-append-add, ext-getD}
@@ -24,9 +25,9 @@ use Rattle.theory.specs.Passes.{length-results, at-results, results-none
 use Rattle.theory.specs.Sizes.{results-size}
 
 -- ---- a picture by its cells
-pub length-grid : (W H : ℕ) (g : ℕ → ℕ → ℤ) → length (grid W H g) ≡ H * W
+pub length-grid : (W H : ℕ) (g : ℕ → ℕ → ℤ) → length (grid W H g) ≡ W * H
 unfolding grid
-length-grid W zero g = sym (zero-mul W)
+length-grid W zero g = sym (mul-zero W)
 length-grid W (suc H) g = length-append (listOf W (λ x. g x 0)) (grid W H (λ x y. g x (suc y))) ∙ rw (length-listOf W (λ x. g x 0), length-grid W H (λ x y. g x (suc y))) (omega arith)
 
 pub cell-grid : (W H : ℕ) (g : ℕ → ℕ → ℤ) (x y : ℕ) → x < W → y < H → cell W (grid W H g) x y ≡ g x y
@@ -53,17 +54,17 @@ record Place (W H i : ℕ) : Type 0 where
   y< : y < H
   is : i ≡ y * W + x
 
-place : (W H i : ℕ) → i < H * W → Place W H i
+place : (W H i : ℕ) → i < W * H → Place W H i
 place zero H i h = absurd (omega arith)
-place (suc W) H i h = record { x = i % suc W; y = i / suc W; x< = mod-lt i (omega arith); y< = div-lt-iff-lt-mul {k = suc W} {x = i} {y = H} (omega arith) .1 h; is = omega (arith, div-add-mod' i (suc W)) }
+place (suc W) H i h = record { x = i % suc W; y = i / suc W; x< = mod-lt i (omega arith); y< = div-lt-iff-lt-mul {k = suc W} {x = i} {y = H} (omega arith) .1 (omega arith); is = omega (arith, div-add-mod' i (suc W)) }
 
-pub cells-ext : (W H : ℕ) (f g : List ℤ) → length f ≡ H * W → length g ≡ H * W → ((x y : ℕ) → x < W → y < H → cell W f x y ≡ cell W g x y) → f ≡ g
+pub cells-ext : (W H : ℕ) (f g : List ℤ) → length f ≡ W * H → length g ≡ W * H → ((x y : ℕ) → x < W → y < H → cell W f x y ≡ cell W g x y) → f ≡ g
 cells-ext W H f g lf lg e = ext-getD (pos 0) f g (lf ∙ sym lg) (λ i l. go (place W H i (omega arith)))
   where
     go : {i : ℕ} → Place W H i → at f i ≡ at g i
     go p = rw (p .is) (e (p .x) (p .y) (p .x<) (p .y<))
 
-pub grid-cell : (W H : ℕ) (f : List ℤ) → length f ≡ H * W → grid W H (cell W f) ≡ f
+pub grid-cell : (W H : ℕ) (f : List ℤ) → length f ≡ W * H → grid W H (cell W f) ≡ f
 grid-cell W H f e = cells-ext W H _ f (length-grid W H (cell W f)) e (cell-grid W H (cell W f))
 
 sized-grid : {M : ℕ} (W H : ℕ) (g : ℕ → ℕ → ℤ) → ((x y : ℕ) → Abs (g x y) M) → Sized M (grid W H g)
@@ -92,7 +93,7 @@ pub at-column : (W H : ℕ) (f : List ℤ) (x y : ℕ) → y < H → at (column 
 unfolding column
 at-column W H f x y h = at-listOf H _ y h
 
-pub length-across : (op : List ℤ → List ℤ) (W H : ℕ) (f : List ℤ) → length (across op W H f) ≡ H * W
+pub length-across : (op : List ℤ → List ℤ) (W H : ℕ) (f : List ℤ) → length (across op W H f) ≡ W * H
 unfolding across
 length-across op W H f = length-grid W H _
 
@@ -100,9 +101,21 @@ pub cell-across : (op : List ℤ → List ℤ) (W H : ℕ) (f : List ℤ) (x y :
 unfolding across
 cell-across op W H f x y = cell-grid W H _ x y
 
-pub length-picture : (φ ψ : IndexMap) (hs vs : List Stage) (W H : ℕ) (f : List ℤ) → length (picture φ ψ hs vs W H f) ≡ H * W
+pub length-down : (op : List ℤ → List ℤ) (W H : ℕ) (f : List ℤ) → length (down op W H f) ≡ W * H
+unfolding down
+length-down op W H f = length-grid W H _
+
+pub cell-down : (op : List ℤ → List ℤ) (W H : ℕ) (f : List ℤ) (x y : ℕ) → x < W → y < H → cell W (down op W H f) x y ≡ at (op (column W H f x)) y
+unfolding down
+cell-down op W H f x y = cell-grid W H _ x y
+
+pub length-picture : (φ ψ : IndexMap) (hs vs : List Stage) (W H : ℕ) (f : List ℤ) → length (picture φ ψ hs vs W H f) ≡ W * H
 unfolding picture
 length-picture φ ψ hs vs W H f = length-grid W H _
+
+pub cell-picture : (φ ψ : IndexMap) (hs vs : List Stage) (W H : ℕ) (f : List ℤ) (x y : ℕ) → x < W → y < H → cell W (picture φ ψ hs vs W H f) x y ≡ pixel φ ψ hs vs W H f (pos x) (pos y)
+unfolding picture
+cell-picture φ ψ hs vs W H f x y = cell-grid W H _ x y
 
 pub across-ext : (p q : List ℤ → List ℤ) (W H : ℕ) (f : List ℤ) → ((g : List ℤ) → length g ≡ W → p g ≡ q g) → across p W H f ≡ across q W H f
 unfolding across
@@ -136,10 +149,10 @@ module _ {φ : IndexMap} (F : Folding φ) where
   pub down-cons : (s : Stage) (ss : List Stage) (W H : ℕ) (f : List ℤ) → down (results φ (s ∷ ss)) W H f ≡ down (pass φ s) W H (down (results φ ss) W H f)
   down-cons s ss W H f = down-ext _ _ W H f (λ g e. results-cons F s ss g) ∙ sym (down-down (pass φ s) (results φ ss) (length-results φ ss) W H f)
 
-  pub across-none : (W H : ℕ) (f : List ℤ) → length f ≡ H * W → across (results φ []) W H f ≡ f
+  pub across-none : (W H : ℕ) (f : List ℤ) → length f ≡ W * H → across (results φ []) W H f ≡ f
   across-none W H f e = across-ext _ (λ g. g) W H f (λ g l. results-none F g) ∙ unfold across row in (grid-ext W H (λ x y l m. at-listOf W _ x l) ∙ grid-cell W H f e)
 
-  pub down-none : (W H : ℕ) (f : List ℤ) → length f ≡ H * W → down (results φ []) W H f ≡ f
+  pub down-none : (W H : ℕ) (f : List ℤ) → length f ≡ W * H → down (results φ []) W H f ≡ f
   down-none W H f e = down-ext _ (λ g. g) W H f (λ g l. results-none F g) ∙ unfold down column in (grid-ext W H (λ x y l m. at-listOf H _ y m) ∙ grid-cell W H f e)
 
   -- a result of a line whose cells are g

@@ -1,33 +1,22 @@
--- Where the kernel is: above 0 at every offset within the reach, and 0 beyond it.
--- Laws: tapReach-width, reach-width; tap-outside, tap-positive; kernel-outside, kernel-positive; convolved-local, convolved-positive.
+-- Within reach the kernel is above 0, and what lies beyond does not count.
+-- Laws: kernel-positive; convolved-local, convolved-positive.
 use mathlib.Core.Path.{_≡_, sym, _∙_, ap}
-use mathlib.Core.List.{List, [], _∷_}
+use mathlib.Core.List.{List, _∷_}
 use Prim.Native.Nat.{ℕ, zero, suc, _-_, _≤_, _<_}
 use native.Mathlib.Nat.{le-refl}
-use native.Mathlib.Decide.{ℕ-discrete, decLe}
+use native.Mathlib.Decide.{decLe}
 use native.Mathlib.Omega.{arith}
 use lib.IntN.{ℤ, pos, negsuc, natAbs, _-ℤ_, _*ℤ_}
 use lib.Signed.{_≤ℤ_, _<ℤ_}
-use borrow.Author.Tests.{lt-leb, eq-eqb, ne-eqb}
 use Rattle.algebra.specs.Difference.{sub-pos}
-use Rattle.algebra.specs.Ring.{sub-back, *ℤ-zero-l, *ℤ-zero-r}
+use Rattle.algebra.specs.Ring.{sub-back, *ℤ-zero-l}
 use Rattle.algebra.specs.Order.{nonneg-*, positive-pos, positive-*}
-use Rattle.algebra.specs.Within.{sumWithin, Beyond, within-ext, within-none, within-positive}
-use Rattle.meaning.specs.Kernel.{Stage, tap, kernel, width, tapReach, reach, passAt}
+use Rattle.algebra.specs.Within.{sumWithin, within-ext, within-positive}
+use Rattle.meaning.specs.Kernel.{Stage, tap, kernel, tapReach, reach, passAt}
 use Rattle.meaning.specs.Smoothing.{convolved}
-use Rattle.theory.specs.Kernel.{Edge, plain, edged, edge, tapReach-width, tap-inside, tap-edge, tap-nonneg, kernel-symmetric, kernel-nonneg, reach-width, kernel-outside}
+use Rattle.theory.specs.Kernel.{tapReach-width, tap-nonneg, tap-positive, kernel-symmetric, kernel-nonneg, reach-width, kernel-outside}
 use Rattle.theory.specs.Stages.{PositiveInner, none, _and_}
 
--- ---- one pass
-pub tap-positive : (s : Stage) → 0 < s .inner → (m : ℤ) → natAbs m ≤ tapReach s → pos 0 <ℤ tap s m
-tap-positive s b m h = go (edge s) (decLe (natAbs m) (s .radius))
-  where
-    go : Edge s → Dec (natAbs m ≤ s .radius) → pos 0 <ℤ tap s m
-    go d (yes l) = rw (tap-inside s m l) (positive-pos b)
-    go (plain e i) (no l) = let no : ⊥ = omega arith in absurd no
-    go (edged e i) (no l) = rw (tap-edge s m (omega arith)) (positive-pos e)
-
--- ---- all passes
 -- at x the pass in front takes what it can, the others the rest
 right : {ss : List Stage} → PositiveInner ss → (x : ℕ) → x ≤ reach ss → pos 0 <ℤ kernel ss (pos x)
 unfolding kernel passAt reach

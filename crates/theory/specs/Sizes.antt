@@ -1,14 +1,14 @@
 -- How large results grow: samples of size up to M give results of size up to M times the divisor, and so after every pass.
 -- Laws: passAt-size, convolved-size; ext-size, pass-size; result-size, results-size; part-size (after some of the passes).
 use mathlib.Core.List.{List, [], _∷_, _++_}
-use Prim.Native.Nat.{ℕ, suc, _*_}
+use Prim.Native.Nat.{ℕ, _*_}
 use native.Mathlib.Nat.{mul-one, mul-comm, mul-le-mul-left}
 use lib.ListN.{length}
 use lib.IntN.{ℤ, pos, _-ℤ_}
 use Rattle.algebra.specs.Size.{Abs}
 use Rattle.algebra.specs.Within.{within-weighted}
 use Rattle.meaning.specs.Extension.{at, IndexMap, ext}
-use Rattle.meaning.specs.Kernel.{Stage, tap, kernel, width, tapSum, divisor, passAt}
+use Rattle.meaning.specs.Kernel.{Stage, kernel, width, tapSum, divisor, passAt}
 use Rattle.meaning.specs.Smoothing.{convolved, result, results, pass}
 use Rattle.theory.specs.Kernel.{kernel-nonneg}
 use Rattle.theory.specs.Convolution.{kernel-sum, passAt-one}
@@ -43,5 +43,5 @@ module _ (φ : IndexMap) {M : ℕ} {f : List ℤ} (h : Sized M f) where
   results-size ss = sized-listOf (length f) _ (λ n l. result-size ss (pos n))
 
   -- after the passes of ts, when those of ss are still to come
-  pub part-size : {ss : List Stage} (ts : List Stage) → PositiveInner ss → Sized (M * divisor (ss ++ ts)) (results φ ts f)
-  part-size ts p = sized-weaken (results-size ts) (mul-le-mul-left M (divisor-part ts p))
+  pub part-size : {ss : List Stage} → PositiveInner ss → (ts : List Stage) → Sized (M * divisor (ss ++ ts)) (results φ ts f)
+  part-size p ts = sized-weaken (results-size ts) (mul-le-mul-left M (divisor-part ts p))

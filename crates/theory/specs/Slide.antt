@@ -1,6 +1,7 @@
 -- A pass by a running sum, over any row e.
 --   window e r n   e summed over |j| ≤ r around n
---   Step s e B     no number that a step of either running sum goes through is larger than B
+--   Step s e B     no number that a step of either running sum goes through is larger than B: of the plain sum `held`, `entered`,
+--                  `weighed`, `pair`, `edges`; of the weighted one `change`, `outer`, `inside`, `between`; of both `written`
 -- The plain sum runs the window and weighs it where it is written (window-slide, passAt-window).
 -- The weighted sum runs the pass itself: the survey's equation 33 (passAt-slide).
 -- Either step stays within twice the bound: M times the sum of the taps for one pass (step-size), M times the divisor for all (step-part).
@@ -77,8 +78,8 @@ pub record Step (s : Stage) (e : ℤ → ℤ) (B : ℕ) : Type 0 where
   pub change : (x y : ℤ) → Abs (e x -ℤ e y) B
   pub outer : (x y : ℤ) → Abs (pos (s .edge) *ℤ (e x -ℤ e y)) B
   pub inside : (x y : ℤ) → Abs ((pos (s .inner) -ℤ pos (s .edge)) *ℤ (e x -ℤ e y)) B
-  pub written : (n : ℤ) → Abs (passAt s e n) B
   pub between : (n x y : ℤ) → Abs (passAt s e n +ℤ pos (s .edge) *ℤ (e x -ℤ e y)) B
+  pub written : (n : ℤ) → Abs (passAt s e n) B
 
 module _ (s : Stage) {M : ℕ} {e : ℤ → ℤ} (h : (n : ℤ) → Abs (e n) M) where
   pub window-size : (n : ℤ) → Abs (window e (s .radius) n) ((2 * s .radius + 1) * M)
@@ -99,8 +100,8 @@ module _ (s : Stage) {M : ℕ} {e : ℤ → ℤ} (h : (n : ℤ) → Abs (e n) M)
         change = λ x y. abs-weaken (abs-- (h x) (h y)) (omega (arith, one));
         outer = λ x y. abs-weaken (abs-* (abs-self (pos (s .edge))) (abs-- (h x) (h y))) (omega arith);
         inside = λ x y. abs-weaken (abs-* (abs-- (abs-self (pos (s .inner))) (abs-self (pos (s .edge)))) (abs-- (h x) (h y))) (omega arith);
-        written = λ n. abs-weaken (passAt-size s h n) (omega arith);
         between = λ n x y. abs-weaken (abs-+ (passAt-size s h n) (abs-* (abs-self (pos (s .edge))) (abs-- (h x) (h y)))) (omega arith);
+        written = λ n. abs-weaken (passAt-size s h n) (omega arith);
       }
 
 -- the pass of s after those of ts, with those of ss to come

@@ -1,9 +1,9 @@
 -- The numbers of stages one after the other, and of K equal ones.
 --   PositiveInner ss   every inner weight of ss is above 0
--- Laws: width-append, reach-append, divisor-append; width-replicate, reach-replicate, divisor-replicate (of K equal stages);
+-- Laws: tapSum-is, divisor-cons; width-append, reach-append, divisor-append; width-replicate, reach-replicate, divisor-replicate (of K equal stages);
 -- divisor-plan, reach-edged, reach-plain (document 01's numbers of a plan);
 -- inner-replicate, inner-append, tapSum-positive, divisor-positive, divisor-part.
-use mathlib.Core.Path.{_≡_, sym, _∙_}
+use mathlib.Core.Path.{_≡_, refl, sym, _∙_}
 use mathlib.Core.List.{List, [], _∷_, _++_}
 use Prim.Native.Nat.{ℕ, zero, suc, _+_, _*_, _^_, _≤_, _<_}
 use native.Mathlib.Nat.{zero-mul, suc-mul, mul-assoc, mul-comm, one-mul, mul-pos, le-mul-of-pos-right, pow-zero, pow-suc}
@@ -12,7 +12,15 @@ use lib.ListN.{replicate}
 use borrow.Author.Tests.{ne-eqb}
 use Rattle.meaning.specs.Kernel.{Stage, plan, width, tapReach, reach, tapSum, divisor}
 
--- ---- numbers of stages one after the other
+pub tapSum-is : (s : Stage) → tapSum s ≡ (2 * s .radius + 1) * s .inner + 2 * s .edge
+unfolding tapSum
+tapSum-is s = refl
+
+-- ---- one after the other
+pub divisor-cons : (s : Stage) (ss : List Stage) → divisor (s ∷ ss) ≡ tapSum s * divisor ss
+unfolding divisor
+divisor-cons s ss = refl
+
 pub width-append : (ss ts : List Stage) → width (ss ++ ts) ≡ width ss + width ts
 unfolding width
 width-append [] ts = omega arith

@@ -7,16 +7,17 @@ use mathlib.Core.List.{List}
 use Prim.Native.Nat.{ℕ, _≤_, _<_}
 use native.Mathlib.Decide.{ℕ-discrete, decLt}
 use native.Mathlib.Omega.{arith}
+use lib.Dec.{eqb}
 use lib.ListN.{length, set, length-set}
 use lib.Seq.{getD-set-same, getD-set-other}
 use lib.IntN.{ℤ, pos, _+ℤ_, _-ℤ_, _*ℤ_, *ℤ-comm, *ℤ-zero, +ℤ-idr}
 use lib.Signed.{_≤ℤ_}
 use borrow.Author.Tests.{eq-eqb, ne-eqb}
-use Rattle.algebra.specs.Ring.{*ℤ-idl, *ℤ-idr, *ℤ-zero-r}
+use Rattle.algebra.specs.Ring.{*ℤ-idl, *ℤ-idr}
 use Rattle.algebra.specs.Order.{nonneg-pos}
 use Rattle.algebra.specs.Expression.{_⊕_, _⊝_, _⊗_, con}
 use Rattle.algebra.specs.Solver.{ring, _≗_}
-use Rattle.algebra.specs.Sum.{sum, sum-ext, sum-only}
+use Rattle.algebra.specs.Sum.{sum, sum-ext, sum-where}
 use Rattle.meaning.specs.Extension.{at, IndexMap, ext}
 use Rattle.meaning.specs.Kernel.{Stage, divisor}
 use Rattle.meaning.specs.Smoothing.{convolved, result, reads, weight}
@@ -67,9 +68,7 @@ module _ (φ : IndexMap) (ss : List Stage) where
 module _ {φ : IndexMap} (F : Folding φ) (ss : List Stage) where
   -- at x one sample is read
   pick : {N : ℕ} → 0 < N → (g : ℕ → ℤ) (x : ℤ) → sum N (λ p. g p *ℤ reads φ N p x) ≡ g (φ N x)
-  pick {N} h g x =
-      sum-only N (φ N x) (λ p. g p *ℤ reads φ N p x) (F .below h x) (λ p l e. *ℤ-zero-r (g p) (reads-no φ N x (λ d. e (sym d))))
-      ∙ ap (λ z. g (φ N x) *ℤ z) (reads-yes φ N x refl) ∙ *ℤ-idr (g (φ N x))
+  pick {N} h g x = sum-where N (φ N x) g (eqb (φ N x)) (F .below h x) (eq-eqb (φ N x) (φ N x) refl) (λ p l d. ne-eqb (φ N x) p (λ e. d (sym e)))
 
   -- so the convolution of what is read is a sum over the samples
   over : {N : ℕ} → 0 < N → (g : ℕ → ℤ) (n : ℤ) → convolved ss (λ x. g (φ N x)) n ≡ sum N (λ p. g p *ℤ weight φ ss N n p)
