@@ -1,7 +1,7 @@
 -- The second moment of a kernel. A kernel's variance is its moment over its divisor, so in whole numbers:
---   moment-append   variances add: of stages one after the other, each one's moment times the other's divisor
---   moment-replicate     the variance of K equal stages is K times that of one
---   moment-stage    that of one stage, in its radius and weights: (r(r+1)(2r+1)b + 6(r+1)²a) / 3 over the sum of its taps
+--   moment-append      variances add: of stages one after the other, each one's moment times the other's divisor
+--   moment-replicate   the variance of K equal stages is K times that of one
+--   moment-stage       that of one stage, in its radius and weights: (r(r+1)(2r+1)b + 6(r+1)²a) / 3 over the sum of its taps
 -- Laws: kernel-centred, convolved-square; moment-append, moment-order, moment-cons, moment-replicate, moment-stage, moment-nonneg.
 use mathlib.Core.Path.{_≡_, refl, sym, _∙_, ap, ap₂}
 use mathlib.Core.List.{List, [], _∷_, _++_}

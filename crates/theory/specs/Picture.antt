@@ -1,4 +1,4 @@
--- Pictures: smoothing across and down, in either order, gives the double sum; and how large it grows.
+-- Pictures: smoothing across and down, in either order, gives `picture`; and how large it grows.
 --   Keeps op   op leaves a series as long as it is
 -- Laws: length-grid, cell-grid, grid-ext, cells-ext (a picture is known by its cells), grid-cell;
 -- length-row, length-column, at-row, at-column; length-across, length-down, length-picture, cell-across, cell-down, cell-picture;
