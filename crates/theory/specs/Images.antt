@@ -148,7 +148,7 @@ module _ (ss : List Stage) (N : ℕ) where
         ∙ simp ac
 
     pub weight-images : weight fold ss N (pos n) p ≡ strided ss N (apart n p) +ℤ strided ss N (2 * N - apart n p) +ℤ strided ss N (n + p + 1) +ℤ strided ss N (2 * N - (n + p + 1))
-    weight-images = four ∙ ap₂ _+ℤ_ near (from-pos (n + p + 1) (omega arith)) ∙ simp +ℤ-assoc
+    weight-images = four ∙ ap₂ _+ℤ_ direct (from-pos (n + p + 1) (omega arith)) ∙ simp +ℤ-assoc
       where
-        near : from (negℤ (pos n -ℤ pos p)) +ℤ from (pos n -ℤ pos p +ℤ pos (2 * N)) ≡ strided ss N (apart n p) +ℤ strided ss N (2 * N - apart n p)
-        near = rw (← natAbs-sub n p) (from-both (pos n -ℤ pos p) (omega (arith, natAbs-sub n p)))
+        direct : from (negℤ (pos n -ℤ pos p)) +ℤ from (pos n -ℤ pos p +ℤ pos (2 * N)) ≡ strided ss N (apart n p) +ℤ strided ss N (2 * N - apart n p)
+        direct = rw (← natAbs-sub n p) (from-both (pos n -ℤ pos p) (omega (arith, natAbs-sub n p)))

@@ -1,7 +1,7 @@
 -- What a sample moves, and what a result depends on: exactly what lies within reach.
 -- Laws: near-yes, near-no, near-true, near-false (the test and the fact); weight-outside, weight-positive;
 -- set-outside, set-inside (of a sample set to another value), result-local.
-use mathlib.Core.Path.{_≡_, sym, _∙_, ap}
+use mathlib.Core.Path.{_≡_, sym, _∙_}
 use mathlib.Core.Logic.{_≢_}
 use mathlib.Core.Bool.{true, false}
 use mathlib.Core.List.{List}
@@ -65,7 +65,7 @@ result-local {φ} C ss f g e {n} h k = convolved-local ss (pos n) (λ x l. rw (�
 
 -- ---- a sample set to another value moves exactly the results within reach
 pub set-outside : {φ : IndexMap} → Nearness φ → (ss : List Stage) (f : List ℤ) (n p : ℕ) (v : ℤ) → n < length f → p < length f → reach ss < apart n p → result φ ss (set f p v) (pos n) ≡ result φ ss f (pos n)
-set-outside {φ} C ss f n p v hn hp l = result-set φ ss f p v hp (pos n) ∙ ap (λ z. result φ ss f (pos n) +ℤ (v -ℤ at f p) *ℤ z) (weight-outside C ss n p hn l) ∙ ap (λ z. result φ ss f (pos n) +ℤ z) (*ℤ-zero (v -ℤ at f p)) ∙ +ℤ-idr (result φ ss f (pos n))
+set-outside {φ} C ss f n p v hn hp l = rw (result-set φ ss f p v hp (pos n), weight-outside C ss n p hn l, *ℤ-zero (v -ℤ at f p)) (+ℤ-idr (result φ ss f (pos n)))
 
 pub set-inside : {φ : IndexMap} → Folding φ → {ss : List Stage} → PositiveInner ss → (f : List ℤ) (n p : ℕ) (v : ℤ) → p < length f → apart n p ≤ reach ss → v ≢ at f p → result φ ss (set f p v) (pos n) ≢ result φ ss f (pos n)
 set-inside {φ} F {ss} b f n p v h l d e = d (moved v (at f p) (weight φ ss (length f) (pos n) p) (result φ ss f (pos n)) (weight-positive F b n p h l) (sym (result-set φ ss f p v h (pos n)) ∙ e))

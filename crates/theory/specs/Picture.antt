@@ -8,7 +8,7 @@
 use mathlib.Core.Path.{_≡_, refl, sym, _∙_, ap, ap₂}
 use mathlib.Core.List.{List, [], _∷_, _++_}
 use Prim.Native.Nat.{ℕ, zero, suc, _+_, _*_, _/_, _%_, _<_}
-use native.Mathlib.Nat.{mul-zero, div-add-mod', mod-lt, div-lt-iff-lt-mul, mul-assoc}
+use native.Mathlib.Nat.{mul-zero, div-add-mod', mod-lt, div-lt-iff-lt-mul, mul-assoc, mul-comm}
 use native.Mathlib.Omega.{arith}
 use lib.ListN.{length, length-append, List·getD-append}
 use lib.Seq.{getD-append-add, ext-getD}
@@ -22,7 +22,7 @@ use Rattle.theory.specs.Folding.{Folding}
 use Rattle.theory.specs.Convolution.{convolved-ext, convolved-swap}
 use Rattle.theory.specs.Lists.{length-listOf, at-listOf, listOf-ext, listOf-at, Sized, sized, sized-listOf}
 use Rattle.theory.specs.Passes.{length-results, at-results, results-none, results-cons}
-use Rattle.theory.specs.Sizes.{results-size}
+use Rattle.theory.specs.Sizes.{convolved-size}
 
 -- ---- a picture by its cells
 pub length-grid : (W H : ℕ) (g : ℕ → ℕ → ℤ) → length (grid W H g) ≡ W * H
@@ -190,7 +190,8 @@ module _ (op : List ℤ → List ℤ) {M Q : ℕ} (k : (g : List ℤ) → Sized 
   unfolding down column
   down-size W H {f} h = sized-grid W H _ (λ x y. k _ (sized-listOf H _ (λ i l. h .size (i * W + x))) .size y)
 
-pub picture-size : {φ ψ : IndexMap} → Folding φ → Folding ψ → (hs vs : List Stage) (W H : ℕ) {M : ℕ} {f : List ℤ} → Sized M f → Sized (M * (divisor hs * divisor vs)) (picture φ ψ hs vs W H f)
-picture-size {φ} {ψ} F G hs vs W H {M} {f} h =
-    rw (← rows-first F G hs vs W H f, ← mul-assoc M (divisor hs) (divisor vs))
-    (down-size (results ψ vs) (λ g s. results-size ψ s vs) W H (across-size (results φ hs) (λ g s. results-size φ s hs) W H h))
+pub picture-size : (φ ψ : IndexMap) (hs vs : List Stage) (W H : ℕ) {M : ℕ} {f : List ℤ} → Sized M f → Sized (M * (divisor hs * divisor vs)) (picture φ ψ hs vs W H f)
+unfolding picture pixel
+picture-size φ ψ hs vs W H {M} h =
+    rw (mul-comm (divisor hs) (divisor vs), ← mul-assoc M (divisor vs) (divisor hs))
+    (sized-grid W H _ (λ x y. convolved-size hs (λ i. convolved-size vs (λ j. h .size (ψ H j * W + φ W i)) (pos y)) (pos x)))

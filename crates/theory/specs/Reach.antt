@@ -24,12 +24,12 @@ right none zero h = positive-pos (omega arith)
 right none (suc x) h = let no : ⊥ = omega arith in absurd no
 right {ss = s ∷ ss} (b and p) x h = go (right p) (decLe x (tapReach s))
   where
-    at : (j : ℕ) → j ≤ tapReach s → j ≤ x → pos 0 <ℤ kernel ss (pos (x - j)) → pos 0 <ℤ sumWithin (suc (s .radius)) (λ j. tap s j *ℤ kernel ss (pos x -ℤ j))
-    at j l k t = within-positive _ (λ i q. nonneg-* (tap-nonneg s i) (kernel-nonneg ss (pos x -ℤ i))) (pos j) (omega (arith, tapReach-width s)) (positive-* (tap-positive s b (pos j) l) (rw (sub-pos x j k) t))
+    taking : (j : ℕ) → j ≤ tapReach s → j ≤ x → pos 0 <ℤ kernel ss (pos (x - j)) → pos 0 <ℤ sumWithin (suc (s .radius)) (λ j. tap s j *ℤ kernel ss (pos x -ℤ j))
+    taking j l k t = within-positive _ (λ i q. nonneg-* (tap-nonneg s i) (kernel-nonneg ss (pos x -ℤ i))) (pos j) (omega (arith, tapReach-width s)) (positive-* (tap-positive s b (pos j) l) (rw (sub-pos x j k) t))
 
     go : ((x : ℕ) → x ≤ reach ss → pos 0 <ℤ kernel ss (pos x)) → Dec (x ≤ tapReach s) → pos 0 <ℤ sumWithin (suc (s .radius)) (λ j. tap s j *ℤ kernel ss (pos x -ℤ j))
-    go ih (yes l) = at x l (le-refl x) (ih (x - x) (omega arith))
-    go ih (no l) = at (tapReach s) (le-refl _) (omega arith) (ih (x - tapReach s) (omega arith))
+    go ih (yes l) = taking x l (le-refl x) (ih (x - x) (omega arith))
+    go ih (no l) = taking (tapReach s) (le-refl _) (omega arith) (ih (x - tapReach s) (omega arith))
 
 pub kernel-positive : {ss : List Stage} → PositiveInner ss → (m : ℤ) → natAbs m ≤ reach ss → pos 0 <ℤ kernel ss m
 kernel-positive p (pos x) l = right p x l

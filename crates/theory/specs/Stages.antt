@@ -2,13 +2,13 @@
 --   PositiveInner ss   every inner weight of ss is above 0
 -- Laws: tapSum-is, divisor-cons; width-append, reach-append, divisor-append; width-replicate, reach-replicate, divisor-replicate (of K equal stages);
 -- divisor-plan, reach-edged, reach-plain (document 01's numbers of a plan);
--- inner-replicate, inner-append, tapSum-positive, divisor-positive, divisor-part.
-use mathlib.Core.Path.{_≡_, refl, sym, _∙_}
+-- inner-replicate, inner-append, tapSum-positive, divisor-positive, divisor-part; replicate-part.
+use mathlib.Core.Path.{_≡_, refl, sym, _∙_, ap}
 use mathlib.Core.List.{List, [], _∷_, _++_}
-use Prim.Native.Nat.{ℕ, zero, suc, _+_, _*_, _^_, _≤_, _<_}
+use Prim.Native.Nat.{ℕ, zero, suc, _+_, _*_, _-_, _^_, _≤_, _<_}
 use native.Mathlib.Nat.{zero-mul, suc-mul, mul-assoc, mul-comm, one-mul, mul-pos, le-mul-of-pos-right, pow-zero, pow-suc}
 use native.Mathlib.Omega.{arith}
-use lib.ListN.{replicate}
+use lib.ListN.{replicate, replicate-append-replicate}
 use borrow.Author.Tests.{ne-eqb}
 use Rattle.meaning.specs.Kernel.{Stage, plan, width, tapReach, reach, tapSum, divisor}
 
@@ -88,3 +88,7 @@ divisor-positive {ss = s ∷ ss} (h and p) = mul-pos (tapSum-positive s h) (divi
 -- the divisor of the passes so far is no larger than that of all
 pub divisor-part : {ss : List Stage} (ts : List Stage) → PositiveInner ss → divisor ts ≤ divisor (ss ++ ts)
 divisor-part {ss} ts p = rw (divisor-append ss ts, mul-comm (divisor ss) (divisor ts)) (le-mul-of-pos-right (divisor ts) (divisor-positive p))
+
+-- k of K equal stages, and those to come
+pub replicate-part : (s : Stage) {k K : ℕ} → k ≤ K → replicate (K - k) s ++ replicate k s ≡ replicate K s
+replicate-part s {k} {K} h = let e : K - k + k ≡ K = omega arith in replicate-append-replicate (K - k) k s ∙ ap (λ n. replicate n s) e
