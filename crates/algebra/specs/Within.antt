@@ -1,7 +1,7 @@
 -- Sums from the centre outward.
 --   sumWithin R f  f summed over every whole m with |m| ≤ R
 --   Beyond w f     f is 0 farther out than w
--- Laws: within-ext, within-halves, within-none, within-const, within-+, within-*, within-swap, within-sum, within-neg;
+-- Laws: within-ext, within-halves, within-none, within-const, within-+, within-*, within-swap, within-exchange, within-sum, within-neg;
 -- within-interval; beyond-*, within-wide, within-step, within-shift;
 -- within-abs, within-weighted, within-nonneg, within-positive.
 use mathlib.Core.Path.{_≡_, refl, sym, _∙_, ap, ap₂}
@@ -11,7 +11,7 @@ use native.Mathlib.Omega.{arith}
 use lib.IntN.{ℤ, pos, negsuc, negℤ, natAbs, predℤ, _+ℤ_, _-ℤ_, _*ℤ_, +ℤ-idl, +ℤ-idr, +ℤ-assoc, +ℤ-comm, +ℤ-predℤ, negℤ-+ℤ}
 use lib.Signed.{_≤ℤ_, _<ℤ_}
 use Rattle.algebra.specs.Difference.{rep, diff, linear}
-use Rattle.algebra.specs.Ring.{ac, *ℤ-idl, *ℤ-zero-l, *ℤ-+ℤ}
+use Rattle.algebra.specs.Ring.{ac, *ℤ-left-comm, *ℤ-idl, *ℤ-zero-l, *ℤ-+ℤ}
 use Rattle.algebra.specs.Order.{nonneg-+, positive-+-l, positive-+-r}
 use Rattle.algebra.specs.Size.{Abs, abs-self, abs-weaken, abs-+, abs-*, natAbs-neg, natAbs-nonneg}
 use Rattle.algebra.specs.Sum.{sum, sum-first, sum-ext, sum-none, sum-wide, sum-abs, sum-nonneg, sum-positive, sumZ}
@@ -57,6 +57,13 @@ pub within-swap : (R Q : ℕ) (f : ℤ → ℤ → ℤ) → sumWithin R (λ m. s
 unfolding sumWithin
 within-swap zero Q f = refl
 within-swap (suc R) Q f = rw (within-swap R Q f, ← within-+ Q (f (pos (suc R))) (f (negsuc R))) (sym (within-+ Q _ _))
+
+-- two weighted sums, one inside the other
+pub within-exchange : (R Q : ℕ) (a b : ℤ → ℤ) (f : ℤ → ℤ → ℤ) → sumWithin R (λ m. a m *ℤ sumWithin Q (λ j. b j *ℤ f m j)) ≡ sumWithin Q (λ j. b j *ℤ sumWithin R (λ m. a m *ℤ f m j))
+within-exchange R Q a b f =
+    within-ext R (λ m l. sym (within-* Q (a m) _))
+    ∙ within-swap R Q (λ m j. a m *ℤ (b j *ℤ f m j))
+    ∙ within-ext Q (λ j l. within-ext R (λ m k. *ℤ-left-comm (a m) (b j) (f m j)) ∙ within-* R (b j) _)
 
 pub within-sum : (R n : ℕ) (f : ℤ → ℕ → ℤ) → sumWithin R (λ m. sum n (λ i. f m i)) ≡ sum n (λ i. sumWithin R (λ m. f m i))
 unfolding sum

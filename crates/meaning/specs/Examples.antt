@@ -1,6 +1,6 @@
--- Document 01's examples as one table under one theorem, the marked ones first. Plans are (r, b, a, K).
+-- Document 01's examples as one table under one theorem, the marked ones first; and three more. Plans are (r, b, a, K).
 --   Example         a call's inputs, and last what must come out
---   Holds e         that is the call's whole outcome, the content of every slice with it; of `divided` and `bounded`, the divisor and rows 1 to 8
+--   Holds e         that is the call's whole outcome, the content of every slice with it; of `divided`, `reached` and `bounded`, the divisor, the reach, and rows 1 to 8
 --   examples-hold   every row of the table holds
 use Prim.Native.Nat.{ℕ}
 use Prim.Native.String.{String}
@@ -34,6 +34,8 @@ data Example : Type 0 where
   whole : List Stage → List ℤ → List ℤ → Example
   -- plan; divisor
   divided : List Stage → ℕ → Example
+  -- plan; reach
+  reached : List Stage → ℕ → Example
   -- plan, bound; number
   bounded : List Stage → ℕ → ℕ → Example
   -- the job's bytes; what the program prints
@@ -50,6 +52,7 @@ Holds (edit ss f p v r n) = editSeries fold ss 9 p v f (results fold ss f) (f ++
 Holds (planner s K b r a) = planFor s K b ≡ record { answer = done; radius = r; edge = a }
 Holds (whole ss f c) = wholeSeries ss 9 (results fold ss f) f ≡ record { answer = done; cells = c }
 Holds (divided ss d) = divisor ss ≡ d
+Holds (reached ss n) = reach ss ≡ n
 Holds (bounded ss M n) = firstOf (commonRows (seriesOf ss 1) M false) ≡ record { number = n; position = 0 }
 Holds (job s t) = program s ≡ text t
 
@@ -88,6 +91,10 @@ examples =
     ∷ 0x05 ∷ 0x00 ∷ 0x04 ∷ 0x00 ∷ 0x00 ∷ 0x00 ∷ 0x08
     ∷ 0x06 ∷ 0x00 ∷ 0x0C ∷ 0x00 ∷ 0x00 ∷ 0x00 ∷ 0x08 ∷ 0x00 ∷ 0x00 ∷ 0x00 ∷ 0x00 ∷ 0x00 ∷ 0x00 ∷ 0x00 ∷ 0x00 ∷ [])
     "smooth 0 8 3\n0 32\n1 24\n2 8\n"
+    -- not of the page: without these a picture of one plan, and a reach of r + 1 always, would pass
+    ∷ raster (plan 0 3 1 1) (plan 1 1 0 1) 2 2 (plus (1 ∷ 0 ∷ 0 ∷ 0 ∷ [])) (plus (8 ∷ 2 ∷ 4 ∷ 1 ∷ []))
+    ∷ reached (plan 1 2 1 8) 16
+    ∷ reached (plan 1 1 0 2) 2
     ∷ []
 
 infixr 5 _and_
@@ -102,4 +109,4 @@ unfolding examples sumWithin emod reflect fold ext tap passAt kernel width reach
 examples-hold =
     refl and refl and refl and refl and refl and refl and refl
     and refl and refl and refl and refl and refl
-    and refl and refl and refl and refl and refl and refl and refl and none
+    and refl and refl and refl and refl and refl and refl and refl and refl and refl and refl and none

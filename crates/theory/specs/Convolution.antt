@@ -13,7 +13,7 @@ use Rattle.algebra.specs.Difference.{rep, diff, linear}
 use Rattle.algebra.specs.Ring.{ac, *ℤ-idl, *ℤ-idr, *ℤ-assoc, *ℤ-left-comm, *ℤ-+ℤ}
 use Rattle.algebra.specs.Order.{nonneg-*}
 use Rattle.algebra.specs.Sum.{sum, sum-*}
-use Rattle.algebra.specs.Within.{sumWithin, beyond-*, within-ext, within-const, within-+, within-*, within-swap, within-sum, within-neg, within-shift, within-nonneg}
+use Rattle.algebra.specs.Within.{sumWithin, beyond-*, within-ext, within-const, within-+, within-*, within-swap, within-exchange, within-sum, within-neg, within-shift, within-nonneg}
 use Rattle.meaning.specs.Kernel.{Stage, tap, kernel, width, tapSum, divisor, passAt}
 use Rattle.meaning.specs.Smoothing.{convolved}
 use Rattle.theory.specs.Kernel.{tap-split, kernel-cons, kernel-symmetric, kernel-nonneg, kernel-beyond}
@@ -33,9 +33,8 @@ tap-sum s = within-ext _ (λ j l. sym (*ℤ-idr (tap s j))) ∙ unfold passAt in
 pub passAt-swap : (s t : Stage) (e : ℤ → ℤ) (n : ℤ) → passAt s (passAt t e) n ≡ passAt t (passAt s e) n
 unfolding passAt
 passAt-swap s t e n =
-    within-ext _ (λ i l. sym (within-* _ (tap s i) _))
-    ∙ within-swap _ _ (λ i j. tap s i *ℤ (tap t j *ℤ e (n -ℤ i -ℤ j)))
-    ∙ within-ext _ (λ j l. within-ext _ (λ i k. *ℤ-left-comm (tap s i) (tap t j) _ ∙ ap (λ x. tap t j *ℤ (tap s i *ℤ e x)) (sub-comm n i j)) ∙ within-* _ (tap t j) _)
+    within-exchange _ _ (tap s) (tap t) (λ i j. e (n -ℤ i -ℤ j))
+    ∙ within-ext _ (λ j l. ap (λ z. tap t j *ℤ z) (within-ext _ (λ i k. ap (λ x. tap s i *ℤ e x) (sub-comm n i j))))
   where
     sub-comm : (n i j : ℤ) → n -ℤ i -ℤ j ≡ n -ℤ j -ℤ i
     sub-comm n i j = simp ac
@@ -107,10 +106,7 @@ convolved-sum ss N g n = within-ext _ (λ m l. sym (sum-* N (kernel ss m) (λ p.
 -- a row of rows, along either first
 pub convolved-swap : (ss ts : List Stage) (g : ℤ → ℤ → ℤ) (n m : ℤ) → convolved ss (λ x. convolved ts (g x) m) n ≡ convolved ts (λ y. convolved ss (λ x. g x y) n) m
 unfolding convolved
-convolved-swap ss ts g n m =
-    within-ext _ (λ i l. sym (within-* _ (kernel ss i) _))
-    ∙ within-swap _ _ (λ i j. kernel ss i *ℤ (kernel ts j *ℤ g (n -ℤ i) (m -ℤ j)))
-    ∙ within-ext _ (λ j l. within-ext _ (λ i k. *ℤ-left-comm (kernel ss i) (kernel ts j) _) ∙ within-* _ (kernel ts j) _)
+convolved-swap ss ts g n m = within-exchange _ _ (kernel ss) (kernel ts) (λ i j. g (n -ℤ i) (m -ℤ j))
 
 -- ---- where a row goes on alike around n and p, forward or backward
 pub convolved-forward : (ss : List Stage) (e : ℤ → ℤ) (n p : ℤ) → ((d : ℤ) → e (n +ℤ d) ≡ e (p +ℤ d)) → convolved ss e n ≡ convolved ss e p

@@ -2,7 +2,7 @@
 --   Folding      what an index map must be for the laws
 --   HalfSample   the map of document 01 is one
 --   Lists        lists by their elements, and how large those are
---   Kernel       symmetric, never negative, 0 beyond its width
+--   Kernel       symmetric, never negative, 0 beyond the reach
 --   Convolution  a stage in front, stages one after the other; linear; the kernel's sum
 --   Stages       the numbers of stages one after the other, and of K equal ones
 --   Reach        where the kernel is above 0

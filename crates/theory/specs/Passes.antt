@@ -2,7 +2,7 @@
 --   repeated K g f   g (g (.. f)), K times
 -- A symmetric kernel commutes with a folding, so the extension of the results is the result at every whole n (ext-results).
 -- Then a stage in front is one pass more (results-cons), and K equal stages are K passes (results-replicate).
--- Laws: length-results, at-results, length-pass, at-pass; result-none, result-cons, result-append;
+-- Laws: length-results, at-results, length-pass, at-pass; result-none, result-cons, result-append, result-empty (of no samples);
 -- result-fold, ext-results; results-none, results-cons, results-append, results-replicate.
 use mathlib.Core.Path.{_≡_, refl, sym, _∙_, ap}
 use mathlib.Core.List.{List, [], _∷_, _++_}
@@ -57,7 +57,7 @@ module _ (φ : IndexMap) where
   follows ss f n p (forward h) = convolved-forward ss (ext φ f) n (pos p) (λ d. ap (at f) (h d))
   follows ss f n p (backward h) = convolved-backward ss (ext φ f) n (pos p) (λ d. ap (at f) (h d))
 
-  result-empty : (ss : List Stage) (n : ℤ) → result φ ss [] n ≡ pos 0
+  pub result-empty : (ss : List Stage) (n : ℤ) → result φ ss [] n ≡ pos 0
   unfolding result ext
   result-empty ss n = convolved-const ss (pos 0) n ∙ *ℤ-zero (pos (divisor ss))
 

@@ -3,8 +3,8 @@
 -- weight-nonneg, weight-sum.
 use mathlib.Core.Path.{_≡_, refl, sym, _∙_, ap, ap₂}
 use mathlib.Core.Logic.{_≢_}
-use mathlib.Core.List.{List}
-use Prim.Native.Nat.{ℕ, _≤_, _<_}
+use mathlib.Core.List.{List, [], _∷_}
+use Prim.Native.Nat.{ℕ, suc, _<_}
 use native.Mathlib.Decide.{ℕ-discrete, decLt}
 use native.Mathlib.Omega.{arith}
 use lib.Dec.{eqb}
@@ -23,6 +23,7 @@ use Rattle.meaning.specs.Kernel.{Stage, divisor}
 use Rattle.meaning.specs.Smoothing.{convolved, result, reads, weight}
 use Rattle.theory.specs.Folding.{Folding}
 use Rattle.theory.specs.Lists.{at-past}
+use Rattle.theory.specs.Passes.{result-empty}
 use Rattle.theory.specs.Convolution.{convolved-ext, convolved-const, convolved-+, convolved-*, convolved-sum, convolved-nonneg}
 
 pub reads-yes : (φ : IndexMap) (N : ℕ) {p : ℕ} (x : ℤ) → φ N x ≡ p → reads φ N p x ≡ pos 1
@@ -32,7 +33,7 @@ pub reads-no : (φ : IndexMap) (N : ℕ) {p : ℕ} (x : ℤ) → φ N x ≢ p �
 reads-no φ N x h = rw (ne-eqb _ _ h)
 
 module _ (φ : IndexMap) (ss : List Stage) where
-  -- h is c times f and d times g, sample by sample
+  -- h is c times f plus d times g, sample by sample
   pub result-linear : (c d : ℤ) (f g h : List ℤ) → length f ≡ length h → length g ≡ length h → ((i : ℕ) → i < length h → at h i ≡ c *ℤ at f i +ℤ d *ℤ at g i) → (n : ℤ) → result φ ss h n ≡ c *ℤ result φ ss f n +ℤ d *ℤ result φ ss g n
   unfolding result ext
   result-linear c d f g h lf lg e n =
@@ -78,9 +79,10 @@ module _ {φ : IndexMap} (F : Folding φ) (ss : List Stage) where
       ∙ convolved-sum ss N (λ p x. g p *ℤ reads φ N p x) n
       ∙ sum-ext N (λ p l. convolved-* ss (g p) (reads φ N p) n)
 
-  pub result-weights : (f : List ℤ) → 0 < length f → (n : ℤ) → result φ ss f n ≡ sum (length f) (λ p. weight φ ss (length f) n p *ℤ at f p)
-  unfolding result ext
-  result-weights f h n = over h (at f) n ∙ sum-ext (length f) (λ p l. *ℤ-comm (at f p) (weight φ ss (length f) n p))
+  pub result-weights : (f : List ℤ) (n : ℤ) → result φ ss f n ≡ sum (length f) (λ p. weight φ ss (length f) n p *ℤ at f p)
+  unfolding result ext sum
+  result-weights [] n = result-empty φ ss n
+  result-weights (x ∷ f) n = over (omega arith) (at (x ∷ f)) n ∙ sum-ext (suc (length f)) (λ p l. *ℤ-comm (at (x ∷ f) p) (weight φ ss (suc (length f)) n p))
 
   pub weight-sum : {N : ℕ} → 0 < N → (n : ℤ) → sum N (λ p. weight φ ss N n p) ≡ pos (divisor ss)
   weight-sum {N} h n =
