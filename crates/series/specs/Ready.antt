@@ -1,0 +1,22 @@
+-- What the steps of a smoothing ask.
+--   Passable p src n   one pass of p from src into n cells: as many cells, and room for every sum of the pass
+use Prim.Native.Nat.{ℕ, _*_, _≤_, _<_}
+use mathlib.Core.Path.{_≡_}
+use mathlib.Core.List.{List}
+use lib.ListN.{length}
+use lib.IntN.{ℤ}
+use Rattle.meaning.specs.Limits.{maxResult, maxLength}
+use Rattle.meaning.specs.Kernel.{tapSum}
+use Rattle.theory.specs.Lists.{Sized}
+use Rattle.plan.specs.declared.Plan.{Plan}
+use Rattle.plan.specs.Told.{stageOf}
+use Rattle.plan.specs.Allowed.{AllowedPlan}
+
+pub record Passable (p : Plan) (src : List ℤ) (n : ℕ) : Type 0 where
+  pub allowed : AllowedPlan p
+  pub some : 1 ≤ length src
+  pub few : length src ≤ maxLength
+  pub same : n ≡ length src
+  pub largest : ℕ
+  pub sized : Sized largest src
+  pub room : largest * tapSum (stageOf p) ≤ maxResult

@@ -1,0 +1,2 @@
+// Smoothing a series.
+pub mod inner;
