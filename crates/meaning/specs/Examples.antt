@@ -1,4 +1,4 @@
--- Document 01's examples as one table under one theorem, the marked ones first; and three more. Plans are (r, b, a, K).
+-- Document 01's examples as one table under one theorem, the marked ones first; and more. Plans are (r, b, a, K).
 --   Example         a call's inputs, and last what must come out
 --   Holds e         that is the call's whole outcome, the content of every slice with it; of `divided`, `reached` and `bounded`, the divisor, the reach, and rows 1 to 8
 --   examples-hold   every row of the table holds
@@ -14,7 +14,7 @@ use Rattle.meaning.specs.Extension.{emod, reflect, fold, ext}
 use Rattle.meaning.specs.Kernel.{Stage, plan, tap, passAt, kernel, width, reach, tapSum, divisor}
 use Rattle.meaning.specs.Smoothing.{listOf, convolved, result, results, weight, near}
 use Rattle.meaning.specs.Picture.{pixel, grid, picture}
-use Rattle.meaning.specs.Refusals.{Answer, firstOf, firstWhere, rowAt, some, planRows, sizeRows, commonRows, seriesOf, ifDone, zeros}
+use Rattle.meaning.specs.Refusals.{Answer, firstOf, firstWhere, rowAt, some, planRows, sizeRows, commonRows, seriesOf, ifDone, zeros, planDivisor, planReach}
 use Rattle.meaning.specs.Values.{nearest, outputRows, converted, wholeSeries}
 use Rattle.meaning.specs.Calls.{smoothRows, smoothed, smoothSeries, smoothPicture, gained, editRows, countWhere, changed, editSeries}
 use Rattle.meaning.specs.Planner.{largest, radiusFor, edgeFor, planFor}
@@ -51,8 +51,8 @@ Holds (raster hs vs W H f r) = smoothPicture fold fold hs vs 9 W H f f f ≡ rec
 Holds (edit ss f p v r n) = editSeries fold ss 9 p v f (results fold ss f) (f ++ f) ≡ record { answer = done; count = n; samples = set f p v; results = r; work = zeros (f ++ f) }
 Holds (planner s K b r a) = planFor s K b ≡ record { answer = done; radius = r; edge = a }
 Holds (whole ss f c) = wholeSeries ss 9 (results fold ss f) f ≡ record { answer = done; cells = c }
-Holds (divided ss d) = divisor ss ≡ d
-Holds (reached ss n) = reach ss ≡ n
+Holds (divided ss d) = planDivisor ss ≡ d
+Holds (reached ss n) = planReach ss ≡ n
 Holds (bounded ss M n) = firstOf (commonRows (seriesOf ss 1) M false) ≡ record { number = n; position = 0 }
 Holds (job s t) = program s ≡ text t
 
@@ -91,10 +91,14 @@ examples =
     ∷ 0x05 ∷ 0x00 ∷ 0x04 ∷ 0x00 ∷ 0x00 ∷ 0x00 ∷ 0x08
     ∷ 0x06 ∷ 0x00 ∷ 0x0C ∷ 0x00 ∷ 0x00 ∷ 0x00 ∷ 0x08 ∷ 0x00 ∷ 0x00 ∷ 0x00 ∷ 0x00 ∷ 0x00 ∷ 0x00 ∷ 0x00 ∷ 0x00 ∷ [])
     "smooth 0 8 3\n0 32\n1 24\n2 8\n"
-    -- not of the page: without these a picture of one plan, and a reach of r + 1 always, would pass
+    -- not of the page: without the first two, a picture of one plan and a reach of r + 1 always would pass
     ∷ raster (plan 0 3 1 1) (plan 1 1 0 1) 2 2 (plus (1 ∷ 0 ∷ 0 ∷ 0 ∷ [])) (plus (8 ∷ 2 ∷ 4 ∷ 1 ∷ []))
-    ∷ reached (plan 1 2 1 8) 16
     ∷ reached (plan 1 1 0 2) 2
+    ∷ reached (plan 1 2 1 8) 16
+    ∷ reached (plan 1 2 2 8) 0
+    ∷ divided (plan 1 2 2 1) 0
+    ∷ divided (plan 1023 255 254 2) 272998935049
+    ∷ divided (plan 1023 255 254 3) 0
     ∷ []
 
 infixr 5 _and_
@@ -104,9 +108,9 @@ data Every : List Example → Type 0 where
 
 examples-hold : Every examples
 unfolding examples sumWithin emod reflect fold ext tap passAt kernel width reach tapSum divisor listOf convolved result results weight near pixel grid picture
-    firstOf firstWhere rowAt some planRows sizeRows ifDone nearest outputRows converted smoothRows smoothed gained editRows countWhere changed editSeries
+    firstOf firstWhere rowAt some planRows sizeRows ifDone planDivisor planReach nearest outputRows converted smoothRows smoothed gained editRows countWhere changed editSeries
     largest radiusFor edgeFor planFor bytes number sampleAt begins reading readRecord text digits decimal firstLine resultLines report program
 examples-hold =
     refl and refl and refl and refl and refl and refl and refl
     and refl and refl and refl and refl and refl
-    and refl and refl and refl and refl and refl and refl and refl and refl and refl and refl and none
+    and refl and refl and refl and refl and refl and refl and refl and refl and refl and refl and refl and refl and refl and refl and none

@@ -1,4 +1,5 @@
--- The bounds of document 01. Radius and edge weight go from 0, the other numbers of its table from 1.
+-- The bounds of document 01.
+--   least                            radius and edge weight go from 0, every other number of its table from this
 --   maxPasses, maxRadius, maxInner   of a plan; the edge weight goes to one less than the inner weight
 --   maxBound                         of the sample bound M
 --   maxResult                        of M times the divisor
@@ -6,6 +7,9 @@
 --   maxSigma                         of the planner's sigma, in hundredths
 --   maxSamples, maxJob               of a job: samples of its record, bytes of the program's input
 use Prim.Native.Nat.{ℕ}
+
+abbrev pub least : ℕ
+least = 1
 
 abbrev pub maxPasses : ℕ
 maxPasses = 8

@@ -7,7 +7,7 @@ use Prim.Native.Nat.{ℕ, zero, suc, _+_, _-_, _*_, _/_}
 use mathlib.Core.Bool.{Bool, cond}
 use mathlib.Core.List.{[], _∷_}
 use lib.Dec.{leb, ltb}
-use Rattle.meaning.specs.Limits.{maxPasses, maxRadius, maxInner, maxSigma}
+use Rattle.meaning.specs.Limits.{least, maxPasses, maxRadius, maxInner, maxSigma}
 use Rattle.meaning.specs.Refusals.{Answer, _when_, firstOf, outside, ifDone}
 
 unfoldable pub largest : ℕ → (ℕ → Bool) → ℕ
@@ -32,5 +32,5 @@ unfoldable pub planFor : ℕ → ℕ → ℕ → Planned
 planFor s K b =
     let Q = 10000 * K in
     let r = radiusFor s Q in
-    let answer = firstOf ((1 when outside 1 maxPasses K) ∷ (3 when outside 1 maxInner b) ∷ (13 when outside 1 maxSigma s) ∷ (15 when ltb maxRadius r) ∷ []) in
+    let answer = firstOf ((1 when outside least maxPasses K) ∷ (3 when outside least maxInner b) ∷ (13 when outside least maxSigma s) ∷ (15 when ltb maxRadius r) ∷ []) in
     record { answer = answer; radius = ifDone answer r 0; edge = ifDone answer (edgeFor s Q b r) 0 }

@@ -18,7 +18,7 @@ use lib.ListN.{length, take, drop}
 use lib.IntN.{ℤ}
 use mir.Syntax.{w32}
 use mir.Val.{ofZ, toZ}
-use Rattle.meaning.specs.Limits.{maxSamples}
+use Rattle.meaning.specs.Limits.{least, maxSamples}
 use Rattle.meaning.specs.Refusals.{Answer, _when_, firstOf, outside, differs, ifDone}
 
 -- "all high byte first"
@@ -76,7 +76,7 @@ readRecord s =
     reading 5 4 s₄ λ M s₅.
     -- the samples take all that is left, so nothing can trail them
     let n = length s₅ - 3 in
-    let good = begins 6 n s₅ && eqb (n % 4) 0 && not (outside 1 maxSamples (n / 4)) in
+    let good = begins 6 n s₅ && eqb (n % 4) 0 && not (outside least maxSamples (n / 4)) in
     cond good (record { answer = record { number = 0; position = 0 }; radius = r; inner = b; edge = a; passes = K; bound = M; start = length s - n; size = n }) notWellFormed
 
 pub record Written : Type 0 where
@@ -87,5 +87,5 @@ pub record Written : Type 0 where
 unfoldable pub writeRecord : ℕ → ℕ → ℕ → ℕ → ℕ → List ℤ → List ℕ → Written
 writeRecord r b a K M f old =
     let new = recordOf r b a K M f in
-    let answer = firstOf ((7 when outside 1 maxSamples (length f)) ∷ (8 when differs (length old) (length new)) ∷ []) in
+    let answer = firstOf ((7 when outside least maxSamples (length f)) ∷ (8 when differs (length old) (length new)) ∷ []) in
     record { answer = answer; slice = ifDone answer new old }

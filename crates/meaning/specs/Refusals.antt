@@ -10,18 +10,20 @@
 --   above M z          z has size above M
 --   Shape              a series (seriesOf) or a picture (pictureOf): plans, divisor, cells, and whether row 7 applies
 --   planRows ps        rows 1 to 4 of the plans ps
---   sizeRows s M wrongLength     rows 5 to 8 under bound M; wrongLength says that row 8 applies
---   commonRows s M wrongLength   rows 1 to 8
+--   sizeRows M product badSize wrongLength   rows 5 to 8 under bound M; product is M times the divisor, and the last two say that 7 and 8 apply
+--   commonRows s M wrongLength   rows 1 to 8 of the shape s
 --   ifDone a new old   new where a is done, old where it is refused
 --   zeros w            zeros, as many as w has cells
+--   planDivisor ss     the divisor of a plan that rows 1 to 4 let pass, and 6 under some bound; of any other 0
+--   planReach ss       the reach of a plan that rows 1 to 4 let pass; of any other 0
 use Prim.Native.Nat.{ℕ, zero, suc, _*_}
 use mathlib.Core.Bool.{Bool, false, cond, not, _||_}
 use mathlib.Core.List.{List, [], _∷_, _++_}
 use lib.Dec.{leb, ltb, eqb}
 use lib.ListN.{length, replicate}
 use lib.IntN.{ℤ, pos, natAbs}
-use Rattle.meaning.specs.Limits.{maxPasses, maxRadius, maxInner, maxBound, maxResult, maxLength, maxSide}
-use Rattle.meaning.specs.Kernel.{Stage, divisor}
+use Rattle.meaning.specs.Limits.{least, maxPasses, maxRadius, maxInner, maxBound, maxResult, maxLength, maxSide}
+use Rattle.meaning.specs.Kernel.{Stage, reach, divisor}
 
 pub record Answer : Type 0 where
   pub number : ℕ
@@ -68,7 +70,7 @@ pub record Shape : Type 0 where
   pub badSize : Bool
 
 abbrev pub seriesOf : List Stage → ℕ → Shape
-seriesOf ss N = record { plans = ss ∷ []; divisor = divisor ss; cells = N; badSize = outside 1 maxLength N }
+seriesOf ss N = record { plans = ss ∷ []; divisor = divisor ss; cells = N; badSize = outside least maxLength N }
 
 -- "the divisor is the product of both divisors"
 abbrev pub pictureOf : List Stage → List Stage → ℕ → ℕ → Shape
@@ -76,29 +78,29 @@ pictureOf hs vs W H = record {
   plans = hs ∷ vs ∷ [];
   divisor = divisor hs * divisor vs;
   cells = W * H;
-  badSize = outside 1 maxSide W || outside 1 maxSide H || ltb maxLength (W * H);
+  badSize = outside least maxSide W || outside least maxSide H || ltb maxLength (W * H);
 }
 
 -- "K, r, b, a not allowed (either plan of a picture)"
 unfoldable pub planRows : List (List Stage) → List Row
 planRows ps =
-    (1 when some (λ ss. outside 1 maxPasses (length ss)) ps)
+    (1 when some (λ ss. outside least maxPasses (length ss)) ps)
     ∷ (2 when some (some (λ s. ltb maxRadius (s .radius))) ps)
-    ∷ (3 when some (some (λ s. outside 1 maxInner (s .inner))) ps)
+    ∷ (3 when some (some (λ s. outside least maxInner (s .inner))) ps)
     ∷ (4 when some (some (λ s. leb (s .inner) (s .edge))) ps)
     ∷ []
 
 -- "M not allowed"; "M times the divisor too large"; "a length, width, height or cell count not allowed"; "a lent slice is not the asked length"
-unfoldable pub sizeRows : Shape → ℕ → Bool → List Row
-sizeRows s M wrongLength =
-    (5 when outside 1 maxBound M)
-    ∷ (6 when ltb maxResult (M * s .divisor))
-    ∷ (7 when s .badSize)
+unfoldable pub sizeRows : ℕ → ℕ → Bool → Bool → List Row
+sizeRows M product badSize wrongLength =
+    (5 when outside least maxBound M)
+    ∷ (6 when ltb maxResult product)
+    ∷ (7 when badSize)
     ∷ (8 when wrongLength)
     ∷ []
 
 abbrev pub commonRows : Shape → ℕ → Bool → List Row
-commonRows s M wrongLength = planRows (s .plans) ++ sizeRows s M wrongLength
+commonRows s M wrongLength = planRows (s .plans) ++ sizeRows M (M * s .divisor) (s .badSize) wrongLength
 
 -- "All refused calls keep every slice unaltered."
 unfoldable pub ifDone : {A : Type 0} → Answer → A → A → A
@@ -107,3 +109,11 @@ ifDone a new old = cond (eqb (a .number) 0) new old
 -- "Work slices hold zeros after a completed call."
 abbrev pub zeros : List ℤ → List ℤ
 zeros w = replicate (length w) (pos 0)
+
+-- ---- a plan by itself
+-- "any number answered besides these three, is 0 on refusal": the least bound is 1, so 6 asks the divisor itself
+unfoldable pub planDivisor : List Stage → ℕ
+planDivisor ss = ifDone (firstOf (planRows (ss ∷ []) ++ (6 when ltb maxResult (divisor ss)) ∷ [])) (divisor ss) 0
+
+unfoldable pub planReach : List Stage → ℕ
+planReach ss = ifDone (firstOf (planRows (ss ∷ []))) (reach ss) 0

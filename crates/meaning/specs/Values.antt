@@ -19,7 +19,7 @@ use lib.ListN.{length, getD}
 use lib.IntN.{ℤ, pos, _+ℤ_, _*ℤ_}
 use lib.Signed.{ltZ, shrZ}
 use lib.Ieee.{Float, nan, inf, fin, binary64, ofInt, div, toSigned, up, down}
-use Rattle.meaning.specs.Limits.{maxBound, maxLength}
+use Rattle.meaning.specs.Limits.{least, maxBound, maxLength}
 use Rattle.meaning.specs.Extension.{at}
 use Rattle.meaning.specs.Kernel.{Stage}
 use Rattle.meaning.specs.Refusals.{Answer, Row, _when_, firstOf, firstWhere, rowAt, some, outside, differs, above, Shape, seriesOf, pictureOf, commonRows, ifDone}
@@ -51,8 +51,8 @@ pub record Converted (A : Type 0) : Type 0 where
 -- "Checks are 5, 7, 8, 11."
 unfoldable pub doubleRows : ℕ → List Float → ℕ → List Row
 doubleRows M xs n =
-    (5 when outside 1 maxBound M)
-    ∷ (7 when outside 1 maxLength (length xs))
+    (5 when outside least maxBound M)
+    ∷ (7 when outside least maxLength (length xs))
     ∷ (8 when differs n (length xs))
     ∷ rowAt 11 (length xs) (λ i. not (takes M (getD xs i nan)))
     ∷ []

@@ -15,6 +15,7 @@
 --   Local        what lies within reach, and nothing else
 --   Images       a weight as strided sums of taps
 --   Picture      rows first or columns first
+--   Refusals     which row answers, and what an answer of 0 says
 -- A law over an index map φ takes `F : Folding φ`, and where it speaks of reach `C : Nearness φ`: for document 01, half-sample and half-sample-near.
 pub mod Folding
 pub mod HalfSample
@@ -32,3 +33,4 @@ pub mod Weights
 pub mod Local
 pub mod Images
 pub mod Picture
+pub mod Refusals

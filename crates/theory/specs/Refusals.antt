@@ -1,0 +1,177 @@
+-- The table of numbers: which row answers, and what an answer of 0 says.
+--   Numbered rows   no row answers 0; of rows that are written down, tt
+--   Off rows        no row applies
+--   done            the answer 0 with position 0
+-- Laws: done-off and off-done (the answer is 0 exactly where no row applies); off-append, append-off; off-skip, refused-stop (rows in two parts);
+-- firstWhere-ext, firstWhere-none, firstWhere-is, firstWhere-before; rowAt-ext, rowAt-on, rowAt-off, rowAt-none;
+-- some-one, some-two, some-replicate; or-no, no-or; outside-no, no-outside, differs-no, no-differs, differs-self, above-no, no-above (a test that fails, and why it does);
+-- ifDone-done, ifDone-refused.
+use mathlib.Core.Path.{_≡_, refl, sym, _∙_, ap, ap₂}
+use mathlib.Core.Bool.{Bool, true, false, cond, not, _&&_, _||_, true≢false, or-false}
+use mathlib.Core.List.{List, [], _∷_, _++_}
+use Prim.Native.Nat.{ℕ, zero, suc, _≤_, _<_}
+use native.Mathlib.Omega.{arith}
+use lib.Dec.{T, leb, ltb, eqb}
+use lib.ListN.{replicate}
+use lib.IntN.{ℤ, natAbs}
+use borrow.Author.Tests.{ltb-true, ltb-false, le-ltb, lt-ltb, eqb-true, eq-eqb, ne-eqb}
+use Rattle.algebra.specs.Size.{Abs}
+use Rattle.meaning.specs.Refusals.{Answer, Row, firstOf, _when_, firstWhere, rowAt, some, outside, differs, above, ifDone}
+
+abbrev pub done : Answer
+done = record { number = 0; position = 0 }
+
+abbrev numbered : List Row → Bool
+numbered [] = true
+numbered (row ∷ rows) = ltb 0 (row .answer .number) && numbered rows
+
+abbrev pub Numbered : List Row → Type 0
+Numbered rows = T (numbered rows)
+
+abbrev pub Off : List Row → Type 0
+Off [] = Unit {0}
+Off (row ∷ rows) = (row .applies ≡ false) × Off rows
+
+-- ---- which row answers
+above-zero : (n : ℕ) (b : Bool) → T (ltb 0 n && b) → (0 < n) × T b
+above-zero n b t = go (ltb 0 n) refl t
+  where
+    go : (s : Bool) → ltb 0 n ≡ s → T (s && b) → (0 < n) × T b
+    go true e t = (ltb-true 0 n e, t)
+    go false e t = absurd t
+
+pub off-done : (rows : List Row) → Off rows → firstOf rows ≡ done
+unfolding firstOf
+off-done [] h = refl
+off-done (row ∷ rows) h = rw (h .0) (off-done rows (h .1))
+
+pub done-off : (rows : List Row) → Numbered rows → firstOf rows .number ≡ 0 → Off rows
+unfolding firstOf
+done-off [] t e = tt
+done-off (row ∷ rows) t e =
+    let (l, u) = above-zero (row .answer .number) (numbered rows) t in
+    go (row .applies) refl l (done-off rows u) e
+  where
+    go : (b : Bool) → row .applies ≡ b → 0 < row .answer .number → (firstOf rows .number ≡ 0 → Off rows) → cond b (row .answer) (firstOf rows) .number ≡ 0 → (row .applies ≡ false) × Off rows
+    go true h l k e = let no : ⊥ = omega arith in absurd no
+    go false h l k e = (h, k e)
+
+-- ---- rows in two parts
+pub off-append : (rows more : List Row) → Off rows → Off more → Off (rows ++ more)
+off-append [] more h k = k
+off-append (row ∷ rows) more h k = (h .0, off-append rows more (h .1) k)
+
+pub append-off : (rows more : List Row) → Off (rows ++ more) → Off rows × Off more
+append-off [] more h = (tt, h)
+append-off (row ∷ rows) more h = let (a, b) = append-off rows more (h .1) in ((h .0, a), b)
+
+pub off-skip : (rows more : List Row) → Off rows → firstOf (rows ++ more) ≡ firstOf more
+unfolding firstOf
+off-skip [] more h = refl
+off-skip (row ∷ rows) more h = rw (h .0) (off-skip rows more (h .1))
+
+pub refused-stop : (rows more : List Row) → (firstOf rows .number ≡ 0 → ⊥) → firstOf (rows ++ more) ≡ firstOf rows
+unfolding firstOf
+refused-stop [] more n = absurd (n refl)
+refused-stop (row ∷ rows) more n = go (row .applies) (refused-stop rows more) n
+  where
+    go : (b : Bool) → ((firstOf rows .number ≡ 0 → ⊥) → firstOf (rows ++ more) ≡ firstOf rows) → (cond b (row .answer) (firstOf rows) .number ≡ 0 → ⊥) → cond b (row .answer) (firstOf (rows ++ more)) ≡ cond b (row .answer) (firstOf rows)
+    go true k n = refl
+    go false k n = k n
+
+-- ---- the first place where a test is true
+pub firstWhere-ext : (N : ℕ) {t u : ℕ → Bool} → ((i : ℕ) → i < N → t i ≡ u i) → firstWhere N t ≡ firstWhere N u
+unfolding firstWhere
+firstWhere-ext zero e = refl
+firstWhere-ext (suc N) {t} {u} e = rw (e 0 (omega arith), firstWhere-ext N {t = λ i. t (suc i)} {u = λ i. u (suc i)} (λ i l. e (suc i) (omega arith)))
+
+pub firstWhere-none : (N : ℕ) {t : ℕ → Bool} → ((i : ℕ) → i < N → t i ≡ false) → firstWhere N t ≡ N
+unfolding firstWhere
+firstWhere-none zero e = refl
+firstWhere-none (suc N) {t} e = rw (e 0 (omega arith)) (ap suc (firstWhere-none N (λ i l. e (suc i) (omega arith))))
+
+pub firstWhere-is : (N i : ℕ) {t : ℕ → Bool} → i < N → t i ≡ true → ((j : ℕ) → j < i → t j ≡ false) → firstWhere N t ≡ i
+unfolding firstWhere
+firstWhere-is zero i l h e = absurd (omega arith)
+firstWhere-is (suc N) zero l h e = rw h
+firstWhere-is (suc N) (suc i) l h e = rw (e 0 (omega arith)) (ap suc (firstWhere-is N i (omega arith) h (λ j m. e (suc j) (omega arith))))
+
+pub firstWhere-before : (N i : ℕ) (t : ℕ → Bool) → i < firstWhere N t → t i ≡ false
+unfolding firstWhere
+firstWhere-before zero i t l = absurd (omega arith)
+firstWhere-before (suc N) i t l = go i (t 0) refl (λ j. firstWhere-before N j (λ i. t (suc i))) l
+  where
+    go : (i : ℕ) (b : Bool) → t 0 ≡ b → ((j : ℕ) → j < firstWhere N (λ i. t (suc i)) → t (suc j) ≡ false) → i < cond b 0 (suc (firstWhere N (λ i. t (suc i)))) → t i ≡ false
+    go i true h k l = absurd (omega arith)
+    go zero false h k l = h
+    go (suc i) false h k l = k i (omega arith)
+
+module _ (n N : ℕ) where
+  pub rowAt-ext : {t u : ℕ → Bool} → ((i : ℕ) → i < N → t i ≡ u i) → rowAt n N t ≡ rowAt n N u
+  unfolding rowAt
+  rowAt-ext e = rw (firstWhere-ext N e)
+
+  pub rowAt-on : (i : ℕ) {t : ℕ → Bool} → i < N → t i ≡ true → ((j : ℕ) → j < i → t j ≡ false) → (rows : List Row) → firstOf (rowAt n N t ∷ rows) ≡ record { number = n; position = i }
+  unfolding rowAt firstOf
+  rowAt-on i {t} l h e rows = rw (firstWhere-is N i {t = t} l h e, lt-ltb i N l)
+
+  pub rowAt-off : {t : ℕ → Bool} → ((i : ℕ) → i < N → t i ≡ false) → rowAt n N t .applies ≡ false
+  unfolding rowAt
+  rowAt-off {t} e = rw (firstWhere-none N {t = t} e) (le-ltb N N (omega arith))
+
+  pub rowAt-none : (t : ℕ → Bool) → rowAt n N t .applies ≡ false → (i : ℕ) → i < N → t i ≡ false
+  unfolding rowAt
+  rowAt-none t e i l = firstWhere-before N i t (omega (arith, ltb-false (firstWhere N t) N e))
+
+-- ---- tests
+pub or-no : (a b : Bool) → (a || b) ≡ false → (a ≡ false) × (b ≡ false)
+or-no false b e = (refl, e)
+or-no true b e = absurd (true≢false e)
+
+pub no-or : {a b : Bool} → a ≡ false → b ≡ false → (a || b) ≡ false
+no-or {a} {b} h k = rw (h, k)
+
+or-same : (b : Bool) → (b || b) ≡ b
+or-same true = refl
+or-same false = refl
+
+pub some-one : {A : Type 0} (t : A → Bool) (x : A) → some t (x ∷ []) ≡ t x
+unfolding some
+some-one t x = or-false (t x)
+
+pub some-replicate : {A : Type 0} (t : A → Bool) (n : ℕ) (x : A) → 0 < n → some t (replicate n x) ≡ t x
+unfolding some
+some-replicate t zero x l = absurd (omega arith)
+some-replicate t (suc zero) x l = or-false (t x)
+some-replicate t (suc (suc n)) x l = rw (some-replicate t (suc n) x (omega arith)) (or-same (t x))
+
+pub outside-no : (low high x : ℕ) → outside low high x ≡ false → (low ≤ x) × (x ≤ high)
+outside-no low high x e = let (a, b) = or-no (ltb x low) (ltb high x) e in (ltb-false x low a, ltb-false high x b)
+
+pub no-outside : {low high x : ℕ} → low ≤ x → x ≤ high → outside low high x ≡ false
+no-outside {low} {high} {x} h k = no-or (le-ltb x low h) (le-ltb high x k)
+
+pub differs-no : (n asked : ℕ) → differs n asked ≡ false → n ≡ asked
+differs-no n asked e = eqb-true n asked (not-not (eqb n asked) e)
+  where
+    not-not : (b : Bool) → not b ≡ false → b ≡ true
+    not-not true e = refl
+    not-not false e = absurd (true≢false e)
+
+pub no-differs : {n asked : ℕ} → n ≡ asked → differs n asked ≡ false
+no-differs {n} {asked} e = ap not (eq-eqb n asked e)
+
+pub above-no : (M : ℕ) (z : ℤ) → above M z ≡ false → Abs z M
+above-no M z e = record { bound = ltb-false M (natAbs z) e }
+
+pub no-above : {M : ℕ} {z : ℤ} → Abs z M → above M z ≡ false
+no-above {M} {z} h = le-ltb M (natAbs z) (h .bound)
+
+-- ---- what a call leaves
+pub ifDone-done : {A : Type 0} (a : Answer) (new old : A) → a .number ≡ 0 → ifDone a new old ≡ new
+unfolding ifDone
+ifDone-done a new old e = rw (eq-eqb (a .number) 0 e)
+
+pub ifDone-refused : {A : Type 0} (a : Answer) (new old : A) → (a .number ≡ 0 → ⊥) → ifDone a new old ≡ old
+unfolding ifDone
+ifDone-refused a new old e = rw (ne-eqb (a .number) 0 e)
