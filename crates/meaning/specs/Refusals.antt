@@ -7,6 +7,7 @@
 --   rowAt n N t        row n, at the first of 0 .. N - 1 where t is true
 --   some t xs          t is true of one of xs
 --   outside, differs   not from low to high; not the length asked
+--   within             from start up to end, end itself left out
 --   above M z          z has size above M
 --   Shape              a series (seriesOf) or a picture (pictureOf): plans, divisor, cells, and whether row 7 applies
 --   planRows ps        rows 1 to 4 of the plans ps
@@ -17,7 +18,7 @@
 --   planDivisor ss     the divisor of a plan that rows 1 to 4 let pass, and 6 under some bound; of any other 0
 --   planReach ss       the reach of a plan that rows 1 to 4 let pass; of any other 0
 use Prim.Native.Nat.{ℕ, zero, suc, _*_}
-use mathlib.Core.Bool.{Bool, false, cond, not, _||_}
+use mathlib.Core.Bool.{Bool, false, cond, not, _&&_, _||_}
 use mathlib.Core.List.{List, [], _∷_, _++_}
 use lib.Dec.{leb, ltb, eqb}
 use lib.ListN.{length, replicate}
@@ -56,6 +57,9 @@ some test (x ∷ xs) = test x || some test xs
 
 abbrev pub outside : ℕ → ℕ → ℕ → Bool
 outside low high x = ltb x low || ltb high x
+
+abbrev pub within : ℕ → ℕ → ℕ → Bool
+within start end i = leb start i && ltb i end
 
 abbrev pub differs : ℕ → ℕ → Bool
 differs n asked = not (eqb n asked)

@@ -1,5 +1,10 @@
 // A plan, its limits, and what calls answer.
 ghost use mathlib.Core.Path.{_≡_};
+ghost use Rattle.meaning.specs.Limits.{least, maxPasses, maxRadius, maxInner, maxBound, maxResult, maxLength, maxSide};
+ghost use Rattle.meaning.specs.Refusals.{planDivisor, planReach};
+ghost use Rattle.plan.specs.Told.{stagesOf};
+
+pub mod inner;
 
 // Radius r, inner weight b, edge weight a, passes K. Any numbers: a call that takes a plan judges it.
 pub struct Plan {
@@ -52,4 +57,34 @@ impl Plan {
             passes,
         }
     }
+
+    // The sum of the K-fold kernel, D^K. Of a plan that is not accepted under any bound, 0.
+    pub fn divisor(self) -> u64
+        ensures { λ d. ⌜ d ≡ planDivisor (stagesOf self) ⌝ }
+    {
+        if inner::plan_refusal(self) != 0 {
+            return 0;
+        }
+        let product = inner::scaled(1, self);
+        if Plan::MAX_RESULT < product {
+            return 0;
+        }
+        product
+    }
+
+    // How far a sample is felt, K(r+1), or K·r where the edge weight is 0. Of a plan that is not accepted, 0.
+    pub fn reach(self) -> u64
+        ensures { λ n. ⌜ n ≡ planReach (stagesOf self) ⌝ }
+    {
+        if inner::plan_refusal(self) != 0 {
+            return 0;
+        }
+        self.passes * inner::tap_reach(self)
+    }
 }
+
+// No code calls this: it is proved, so that each constant is the number of the definitions.
+fn limits_agree()
+    ensures { λ _. do ⌜ (least ≡ (← ⟦Plan::LEAST⟧ .entry)) × (maxPasses ≡ (← ⟦Plan::MAX_PASSES⟧ .entry)) × (maxRadius ≡ (← ⟦Plan::MAX_RADIUS⟧ .entry)) × (maxInner ≡ (← ⟦Plan::MAX_INNER⟧ .entry)) ⌝ }
+    ensures { λ _. do ⌜ (maxBound ≡ (← ⟦Plan::MAX_BOUND⟧ .entry)) × (maxResult ≡ (← ⟦Plan::MAX_RESULT⟧ .entry)) × (maxLength ≡ (← ⟦Plan::MAX_LENGTH⟧ .entry)) × (maxSide ≡ (← ⟦Plan::MAX_SIDE⟧ .entry)) ⌝ }
+{}

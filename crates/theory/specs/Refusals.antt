@@ -2,21 +2,24 @@
 --   Numbered rows   no row answers 0; of rows that are written down, tt
 --   Off rows        no row applies
 --   done            the answer 0 with position 0
--- Laws: done-off and off-done (the answer is 0 exactly where no row applies); off-append, append-off; off-skip, refused-stop (rows in two parts);
--- firstWhere-ext, firstWhere-none, firstWhere-is, firstWhere-before; rowAt-ext, rowAt-on, rowAt-off, rowAt-none;
+-- Laws: first-on (the first row applies); done-off and off-done (the answer is 0 exactly where no row applies); off-append, append-off, refused-first, done-rest (rows in two parts);
+-- firstWhere-ext, firstWhere-none, firstWhere-is, firstWhere-before; none-next; rowAt-ext, rowAt-on, rowAt-off, rowAt-none;
 -- some-one, some-two, some-replicate; or-no, no-or; outside-no, no-outside, differs-no, no-differs, differs-self, above-no, no-above (a test that fails, and why it does);
--- ifDone-done, ifDone-refused.
+-- ifDone-done, ifDone-refused; plan-rows; plan-numbered, size-numbered.
 use mathlib.Core.Path.{_≡_, refl, sym, _∙_, ap, ap₂}
 use mathlib.Core.Bool.{Bool, true, false, cond, not, _&&_, _||_, true≢false, or-false}
 use mathlib.Core.List.{List, [], _∷_, _++_}
-use Prim.Native.Nat.{ℕ, zero, suc, _≤_, _<_}
+use Prim.Native.Nat.{ℕ, zero, suc, _+_, _≤_, _<_}
+use native.Mathlib.Decide.{decLt}
 use native.Mathlib.Omega.{arith}
 use lib.Dec.{T, leb, ltb, eqb}
-use lib.ListN.{replicate}
+use lib.ListN.{length, replicate, length-replicate}
 use lib.IntN.{ℤ, natAbs}
 use borrow.Author.Tests.{ltb-true, ltb-false, le-ltb, lt-ltb, eqb-true, eq-eqb, ne-eqb}
 use Rattle.algebra.specs.Size.{Abs}
-use Rattle.meaning.specs.Refusals.{Answer, Row, firstOf, _when_, firstWhere, rowAt, some, outside, differs, above, ifDone}
+use Rattle.meaning.specs.Limits.{least, maxPasses, maxRadius, maxInner}
+use Rattle.meaning.specs.Kernel.{Stage, plan}
+use Rattle.meaning.specs.Refusals.{Answer, Row, firstOf, _when_, firstWhere, rowAt, some, outside, differs, above, planRows, sizeRows, ifDone}
 
 abbrev pub done : Answer
 done = record { number = 0; position = 0 }
@@ -39,6 +42,10 @@ above-zero n b t = go (ltb 0 n) refl t
     go : (s : Bool) → ltb 0 n ≡ s → T (s && b) → (0 < n) × T b
     go true e t = (ltb-true 0 n e, t)
     go false e t = absurd t
+
+pub first-on : (row : Row) (rows : List Row) → row .applies ≡ true → firstOf (row ∷ rows) ≡ row .answer
+unfolding firstOf
+first-on row rows h = rw h
 
 pub off-done : (rows : List Row) → Off rows → firstOf rows ≡ done
 unfolding firstOf
@@ -65,19 +72,23 @@ pub append-off : (rows more : List Row) → Off (rows ++ more) → Off rows × O
 append-off [] more h = (tt, h)
 append-off (row ∷ rows) more h = let (a, b) = append-off rows more (h .1) in ((h .0, a), b)
 
-pub off-skip : (rows more : List Row) → Off rows → firstOf (rows ++ more) ≡ firstOf more
+off-skip : (rows more : List Row) → Off rows → firstOf (rows ++ more) ≡ firstOf more
 unfolding firstOf
 off-skip [] more h = refl
 off-skip (row ∷ rows) more h = rw (h .0) (off-skip rows more (h .1))
 
-pub refused-stop : (rows more : List Row) → (firstOf rows .number ≡ 0 → ⊥) → firstOf (rows ++ more) ≡ firstOf rows
+-- a call that has tested the first part: refused, it has the answer; done, it has that of the rest
+pub refused-first : (rows more : List Row) {a : Answer} → a ≡ firstOf rows → (a .number ≡ 0 → ⊥) → a ≡ firstOf (rows ++ more)
 unfolding firstOf
-refused-stop [] more n = absurd (n refl)
-refused-stop (row ∷ rows) more n = go (row .applies) (refused-stop rows more) n
+refused-first [] more e n = absurd (n (ap (λ (x : Answer). x .number) e))
+refused-first (row ∷ rows) more {a} e n = go (row .applies) (λ f. refused-first rows more f n) e
   where
-    go : (b : Bool) → ((firstOf rows .number ≡ 0 → ⊥) → firstOf (rows ++ more) ≡ firstOf rows) → (cond b (row .answer) (firstOf rows) .number ≡ 0 → ⊥) → cond b (row .answer) (firstOf (rows ++ more)) ≡ cond b (row .answer) (firstOf rows)
-    go true k n = refl
-    go false k n = k n
+    go : (b : Bool) → (a ≡ firstOf rows → a ≡ firstOf (rows ++ more)) → a ≡ cond b (row .answer) (firstOf rows) → a ≡ cond b (row .answer) (firstOf (rows ++ more))
+    go true k e = e
+    go false k e = k e
+
+pub done-rest : (rows more : List Row) {a b : Answer} → Numbered rows → a ≡ firstOf rows → a .number ≡ 0 → b ≡ firstOf more → b ≡ firstOf (rows ++ more)
+done-rest rows more {a} t e z f = f ∙ sym (off-skip rows more (done-off rows t (rw (← e) z)))
 
 -- ---- the first place where a test is true
 pub firstWhere-ext : (N : ℕ) {t u : ℕ → Bool} → ((i : ℕ) → i < N → t i ≡ u i) → firstWhere N t ≡ firstWhere N u
@@ -105,6 +116,14 @@ firstWhere-before (suc N) i t l = go i (t 0) refl (λ j. firstWhere-before N j (
     go i true h k l = absurd (omega arith)
     go zero false h k l = h
     go (suc i) false h k l = k i (omega arith)
+
+-- a test that fails up to i, and at i
+pub none-next : {t : ℕ → Bool} {i : ℕ} → ((j : ℕ) → j < i → t j ≡ false) → t i ≡ false → (j : ℕ) → j < i + 1 → t j ≡ false
+none-next {t} {i} h e j l = go (decLt j i)
+  where
+    go : Dec (j < i) → t j ≡ false
+    go (yes m) = h j m
+    go (no m) = let same : j ≡ i = omega arith in rw same e
 
 module _ (n N : ℕ) where
   pub rowAt-ext : {t u : ℕ → Bool} → ((i : ℕ) → i < N → t i ≡ u i) → rowAt n N t ≡ rowAt n N u
@@ -175,3 +194,28 @@ ifDone-done a new old e = rw (eq-eqb (a .number) 0 e)
 pub ifDone-refused : {A : Type 0} (a : Answer) (new old : A) → (a .number ≡ 0 → ⊥) → ifDone a new old ≡ old
 unfolding ifDone
 ifDone-refused a new old e = rw (ne-eqb (a .number) 0 e)
+
+-- ---- rows 1 to 4 of K equal stages, by the plan's numbers
+some-stage : (t : Stage → Bool) (K : ℕ) (s : Stage) → some (some t) (replicate (suc K) s ∷ []) ≡ t s
+some-stage t K s = some-one (some t) (replicate (suc K) s) ∙ some-replicate t (suc K) s (omega arith)
+
+pub plan-rows : (r b a K : ℕ) → firstOf (planRows (plan r b a K ∷ [])) ≡ firstOf ((1 when outside least maxPasses K) ∷ (2 when ltb maxRadius r) ∷ (3 when outside least maxInner b) ∷ (4 when leb b a) ∷ [])
+unfolding planRows firstOf some
+plan-rows r b a zero = refl
+plan-rows r b a (suc K) =
+    let s : Stage = record { radius = r; inner = b; edge = a } in
+    rw (
+      some-one (λ (ss : List Stage). outside least maxPasses (length ss)) (replicate (suc K) s),
+      length-replicate (suc K) s,
+      some-stage (λ (s : Stage). ltb maxRadius (s .radius)) K s,
+      some-stage (λ (s : Stage). outside least maxInner (s .inner)) K s,
+      some-stage (λ (s : Stage). leb (s .inner) (s .edge)) K s,
+    )
+
+pub plan-numbered : (ps : List (List Stage)) → Numbered (planRows ps)
+unfolding planRows
+plan-numbered ps = tt
+
+pub size-numbered : (M product : ℕ) (badSize wrongLength : Bool) → Numbered (sizeRows M product badSize wrongLength)
+unfolding sizeRows
+size-numbered M product badSize wrongLength = tt

@@ -1,0 +1,31 @@
+use borrow.Author.Needs.{needs}
+use Rattle.plan.specs.Allowed.{AllowedPlan, plan-allowed}
+use Rattle.plan.specs.Own.{divisor-refused, divisor-large, divisor-done}
+use Rattle.plan.proofs.Plan.divisor.Statement.{statement}
+use Rattle.plan.proofs.Plan.divisor.Tie as tie
+use Rattle.plan.proofs.Plan.divisor.Reads as reads
+use Rattle.plan.proofs.Plan.divisor.Lts as lts
+use Rattle.plan.proofs.inner.plan_refusal.Reads as plan-refusal-reads
+use Rattle.plan.proofs.inner.scaled.Reads as scaled-reads
+
+plan-refusal-requires : tie.Need-plan-refusal-requires
+plan-refusal-requires c κs = search needs
+
+returns : tie.Need-returns
+returns c = divisor-refused (c .before .before .args .self) (c .before .plan-refusal .ensures) (c .if1 .taken)
+
+allowed : (c : tie.Else1) → AllowedPlan (c .before .before .args .self)
+allowed c = plan-allowed _ (c .before .plan-refusal .ensures) (c .if1 .left)
+
+scaled-requires : tie.Need-scaled-requires
+scaled-requires c κs = allowed c
+
+returns-2 : tie.Need-returns-2
+returns-2 c = divisor-large _ (allowed (c .before .before)) _ (c .before .scaled .ensures) (c .if2 .taken)
+
+returns-3 : tie.Need-returns-3
+returns-3 c = divisor-done _ (allowed (c .before .before)) _ (c .before .scaled .ensures) (c .if2 .left)
+
+pub divisor-spec : {M : Type 1} → statement M
+divisor-spec =
+    tie.close (tie.spec plan-refusal-requires returns scaled-requires returns-2 returns-3)

@@ -1,0 +1,46 @@
+use mathlib.Core.Path.{_∙_, ap}
+use borrow.Author.Needs.{needs}
+use Rattle.meaning.specs.Refusals.{firstOf}
+use Rattle.theory.specs.Refusals.{refused-first, done-rest, plan-numbered}
+use Rattle.plan.specs.Allowed.{plan-allowed}
+use Rattle.plan.specs.Capped.{sizeRows-capped}
+use Rattle.plan.proofs.inner.series_refusal.Statement.{statement}
+use Rattle.plan.proofs.inner.series_refusal.Tie as tie
+use Rattle.plan.proofs.inner.series_refusal.Reads as reads
+use Rattle.plan.proofs.inner.series_refusal.Lts as lts
+use Rattle.plan.proofs.inner.outside.Reads as outside-reads
+use Rattle.plan.proofs.inner.plan_refusal.Reads as plan-refusal-reads
+use Rattle.plan.proofs.inner.scaled.Reads as scaled-reads
+use Rattle.plan.proofs.inner.size_refusal.Reads as size-refusal-reads
+
+plan-refusal-requires : tie.Need-plan-refusal-requires
+plan-refusal-requires c κs = search needs
+
+returns : tie.Need-returns
+returns c = refused-first _ _ (c .before .plan-refusal .ensures) (c .if1 .taken)
+
+outside-requires : tie.Need-outside-requires
+outside-requires c κs = search needs
+
+scaled-requires : tie.Need-scaled-requires
+scaled-requires c κs = plan-allowed _ (c .before .before .plan-refusal .ensures) (c .before .if1 .left)
+
+size-refusal-requires : tie.Need-size-refusal-requires
+size-refusal-requires c κs = search needs
+
+returns-2 : tie.Need-returns-2
+returns-2 c =
+    let a = c .before .before .before .before .before .args in
+    done-rest _ _ (plan-numbered _) (c .before .before .before .before .plan-refusal .ensures) (c .before .before .before .if1 .left)
+    (c .size-refusal .ensures ∙ ap firstOf (sizeRows-capped (a .bound) _ _ _ _ (c .before .scaled .ensures)) ∙ rw (c .before .before .outside .ensures))
+
+pub series-refusal-spec : {M : Type 1} → statement M
+series-refusal-spec =
+    tie.close
+    (tie.spec
+    plan-refusal-requires
+    returns
+    outside-requires
+    scaled-requires
+    size-refusal-requires
+    returns-2)

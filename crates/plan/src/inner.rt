@@ -1,0 +1,157 @@
+// The tests that calls share. A number answered is the first row that applies, 0 where none does.
+ghost use mathlib.Core.Path.{_≡_};
+ghost use mathlib.Core.Bool.{Bool};
+ghost use mathlib.Core.List.{[], _∷_};
+ghost use Prim.Native.Nat.{_+_, _*_, _≤_};
+ghost use lib.ListN.{length};
+ghost use lib.IntN.{natAbs};
+ghost use Rattle.meaning.specs.Kernel.{tapSum, tapReach, divisor};
+ghost use Rattle.meaning.specs.Refusals as R;
+ghost use Rattle.meaning.specs.Refusals.{_when_};
+ghost use Rattle.meaning.specs.Calls as C;
+ghost use Rattle.plan.specs.Told.{stageOf, stagesOf, answerOf, plain};
+ghost use Rattle.plan.specs.Allowed.{AllowedPlan};
+ghost use Rattle.plan.specs.Capped.{capped};
+use crate::Answer;
+use crate::Plan;
+
+// Is x not from low to high?
+pub fn outside(low: u64, high: u64, x: u64) -> bool
+    ensures { λ r. ⌜ r ≡ R.outside low high x ⌝ }
+{
+    if x < low {
+        return true;
+    }
+    high < x
+}
+
+// The first of four rows, numbered from `number` on, whose test is true.
+fn first_row(number: u64, a: bool, b: bool, c: bool, d: bool) -> u64
+    requires { ⌜ number ≤ 5 ⌝ }
+    ensures { λ r. ⌜ plain r ≡ R.firstOf ((number when a) ∷ (number + 1 when b) ∷ (number + 2 when c) ∷ (number + 3 when d) ∷ []) ⌝ }
+{
+    if a {
+        return number;
+    }
+    if b {
+        return number + 1;
+    }
+    if c {
+        return number + 2;
+    }
+    if d {
+        return number + 3;
+    }
+    0
+}
+
+// Rows 1 to 4.
+pub fn plan_refusal(plan: Plan) -> u64
+    ensures { λ r. ⌜ plain r ≡ R.firstOf (R.planRows (stagesOf plan ∷ [])) ⌝ }
+{
+    let passes = outside(Plan::LEAST, Plan::MAX_PASSES, plan.passes);
+    let radius = Plan::MAX_RADIUS < plan.radius;
+    let inner = outside(Plan::LEAST, Plan::MAX_INNER, plan.inner);
+    let edge = plan.inner <= plan.edge;
+    first_row(1, passes, radius, inner, edge)
+}
+
+// The sum of one pass's taps.
+fn tap_sum(plan: Plan) -> u64
+    requires { ⌜ AllowedPlan plan ⌝ }
+    ensures { λ r. ⌜ r ≡ tapSum (stageOf plan) ⌝ }
+{
+    (2 * plan.radius + 1) * plan.inner + 2 * plan.edge
+}
+
+// How far a sample is felt after one pass.
+pub fn tap_reach(plan: Plan) -> u64
+    requires { ⌜ AllowedPlan plan ⌝ }
+    ensures { λ r. ⌜ r ≡ tapReach (stageOf plan) ⌝ }
+{
+    if plan.edge == 0 {
+        plan.radius
+    } else {
+        plan.radius + 1
+    }
+}
+
+// x times d, or one above the largest result where that is larger.
+fn capped_times(x: u64, d: u64) -> u64
+    requires { ⌜ 1 ≤ d ⌝ }
+    ensures { λ r. ⌜ r ≡ capped (x * d) ⌝ }
+{
+    if Plan::MAX_RESULT / d < x {
+        return Plan::MAX_RESULT + 1;
+    }
+    x * d
+}
+
+// x times the divisor of an allowed plan, or above the largest result where that is.
+pub fn scaled(x: u64, plan: Plan) -> u64
+    requires { ⌜ AllowedPlan plan ⌝ }
+    ensures { λ r. ⌜ capped r ≡ capped (x * divisor (stagesOf plan)) ⌝ }
+{
+    let d = tap_sum(plan);
+    let passes = plan.passes;
+    let mut product = x;
+    let mut k: u64 = 0;
+    while k < passes {
+        product = capped_times(product, d);
+        k += 1;
+    }
+    product
+}
+
+// Rows 5 to 8, of the bound, its product with the divisor, and two tests that the call has made.
+pub fn size_refusal(bound: u64, product: u64, bad_size: bool, wrong_length: bool) -> u64
+    ensures { λ r. ⌜ plain r ≡ R.firstOf (R.sizeRows bound product «bad_size» «wrong_length») ⌝ }
+{
+    let bounds = outside(Plan::LEAST, Plan::MAX_BOUND, bound);
+    let results = Plan::MAX_RESULT < product;
+    first_row(5, bounds, results, bad_size, wrong_length)
+}
+
+// Rows 1 to 8 of a series.
+pub fn series_refusal(plan: Plan, bound: u64, cells: usize, wrong_length: bool) -> u64
+    ensures { λ r. ⌜ plain r ≡ R.firstOf (R.commonRows (R.seriesOf (stagesOf plan) cells) bound «wrong_length») ⌝ }
+{
+    let number = plan_refusal(plan);
+    if number != 0 {
+        return number;
+    }
+    let bad_size = outside(Plan::LEAST, Plan::MAX_LENGTH, cells as u64);
+    size_refusal(bound, scaled(bound, plan), bad_size, wrong_length)
+}
+
+// The size of a sample, also of the lowest, which no i32 has with the other sign.
+fn size(x: i32) -> u64
+    ensures { λ r. ⌜ r ≡ natAbs x ⌝ }
+{
+    let wide = x as i64;
+    if wide < 0 {
+        return (0 - wide) as u64;
+    }
+    wide as u64
+}
+
+// Row 11, of the samples from start up to end.
+pub fn sample_refusal(bound: u64, samples: &[i32], start: usize, end: usize) -> Answer
+    requires { ⌜ end ≤ length (now samples) ⌝ }
+    ensures { λ r. ⌜ answerOf r ≡ R.firstOf (C.sampleRow bound (now (samples .entry)) (R.within start end) ∷ []) ⌝ }
+{
+    let mut i = start;
+    while i < end {
+        if bound < size(samples[i]) {
+            return Answer {
+                number: 11,
+                position: i,
+            };
+        }
+        i += 1;
+    }
+    Answer {
+        number: 0,
+        position: 0,
+    }
+}
