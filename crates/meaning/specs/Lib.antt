@@ -7,6 +7,7 @@
 --   Refusals    the table of numbers, and the lowest that applies
 --   Values      doubles in; whole numbers, doubles and summary out
 --   Calls       smoothing a series and a picture, an edit, a point: what each answers and leaves
+--   Bounds      the table of bounds as inequalities, beside the rows
 --   Planner     from standard deviation to radius and edge weight
 --   Record      the job record: reader and writer
 --   Program     what `smooth` prints
@@ -24,6 +25,7 @@ pub mod Picture
 pub mod Refusals
 pub mod Values
 pub mod Calls
+pub mod Bounds
 pub mod Planner
 pub mod Record
 pub mod Program

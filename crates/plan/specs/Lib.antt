@@ -1,9 +1,7 @@
 -- The words of this crate's contracts.
 --   Told      the code's structs as the definitions have them
---   Allowed   what the tests let pass
 --   Capped    products that cannot wrap
 --   Own       a plan's own divisor and reach
 pub mod Told
-pub mod Allowed
 pub mod Capped
 pub mod Own

@@ -9,8 +9,7 @@ use Rattle.meaning.specs.Limits.{maxResult, maxLength}
 use Rattle.meaning.specs.Kernel.{tapSum}
 use Rattle.theory.specs.Lists.{Sized}
 use Rattle.plan.specs.declared.Plan.{Plan}
-use Rattle.plan.specs.Told.{stageOf}
-use Rattle.plan.specs.Allowed.{AllowedPlan}
+use Rattle.plan.specs.Told.{stageOf, AllowedPlan}
 
 pub record Passable (p : Plan) (src : List ℤ) (n : ℕ) : Type 0 where
   pub allowed : AllowedPlan p

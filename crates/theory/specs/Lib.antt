@@ -16,6 +16,7 @@
 --   Images       a weight as strided sums of taps
 --   Picture      rows first or columns first
 --   Refusals     which row answers, and what an answer of 0 says
+--   Accepted     a call is done exactly where the bounds hold
 -- A law over an index map φ takes `F : Folding φ`, and where it speaks of reach `C : Nearness φ`: for document 01, half-sample and half-sample-near.
 pub mod Folding
 pub mod HalfSample
@@ -34,3 +35,4 @@ pub mod Local
 pub mod Images
 pub mod Picture
 pub mod Refusals
+pub mod Accepted

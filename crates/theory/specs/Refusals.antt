@@ -5,7 +5,7 @@
 -- Laws: first-on (the first row applies); done-off and off-done (the answer is 0 exactly where no row applies); off-append, append-off, refused-first, done-rest (rows in two parts);
 -- firstWhere-ext, firstWhere-none, firstWhere-is, firstWhere-before; none-next; rowAt-ext, rowAt-on, rowAt-off, rowAt-none;
 -- some-one, some-two, some-replicate; or-no, no-or; outside-no, no-outside, differs-no, no-differs, differs-self, above-no, no-above (a test that fails, and why it does);
--- ifDone-done, ifDone-refused; plan-rows; plan-numbered, size-numbered.
+-- ifDone-done, ifDone-refused; plan-numbered, size-numbered.
 use mathlib.Core.Path.{_≡_, refl, sym, _∙_, ap, ap₂}
 use mathlib.Core.Bool.{Bool, true, false, cond, not, _&&_, _||_, true≢false, or-false}
 use mathlib.Core.List.{List, [], _∷_, _++_}
@@ -13,12 +13,11 @@ use Prim.Native.Nat.{ℕ, zero, suc, _+_, _≤_, _<_}
 use native.Mathlib.Decide.{decLt}
 use native.Mathlib.Omega.{arith}
 use lib.Dec.{T, leb, ltb, eqb}
-use lib.ListN.{length, replicate, length-replicate}
+use lib.ListN.{replicate}
 use lib.IntN.{ℤ, natAbs}
 use borrow.Author.Tests.{ltb-true, ltb-false, le-ltb, lt-ltb, eqb-true, eq-eqb, ne-eqb}
 use Rattle.algebra.specs.Size.{Abs}
-use Rattle.meaning.specs.Limits.{least, maxPasses, maxRadius, maxInner}
-use Rattle.meaning.specs.Kernel.{Stage, plan}
+use Rattle.meaning.specs.Kernel.{Stage}
 use Rattle.meaning.specs.Refusals.{Answer, Row, firstOf, _when_, firstWhere, rowAt, some, outside, differs, above, planRows, sizeRows, ifDone}
 
 abbrev pub done : Answer
@@ -195,23 +194,7 @@ pub ifDone-refused : {A : Type 0} (a : Answer) (new old : A) → (a .number ≡ 
 unfolding ifDone
 ifDone-refused a new old e = rw (ne-eqb (a .number) 0 e)
 
--- ---- rows 1 to 4 of K equal stages, by the plan's numbers
-some-stage : (t : Stage → Bool) (K : ℕ) (s : Stage) → some (some t) (replicate (suc K) s ∷ []) ≡ t s
-some-stage t K s = some-one (some t) (replicate (suc K) s) ∙ some-replicate t (suc K) s (omega arith)
-
-pub plan-rows : (r b a K : ℕ) → firstOf (planRows (plan r b a K ∷ [])) ≡ firstOf ((1 when outside least maxPasses K) ∷ (2 when ltb maxRadius r) ∷ (3 when outside least maxInner b) ∷ (4 when leb b a) ∷ [])
-unfolding planRows firstOf some
-plan-rows r b a zero = refl
-plan-rows r b a (suc K) =
-    let s : Stage = record { radius = r; inner = b; edge = a } in
-    rw (
-      some-one (λ (ss : List Stage). outside least maxPasses (length ss)) (replicate (suc K) s),
-      length-replicate (suc K) s,
-      some-stage (λ (s : Stage). ltb maxRadius (s .radius)) K s,
-      some-stage (λ (s : Stage). outside least maxInner (s .inner)) K s,
-      some-stage (λ (s : Stage). leb (s .inner) (s .edge)) K s,
-    )
-
+-- ---- the rows that calls share
 pub plan-numbered : (ps : List (List Stage)) → Numbered (planRows ps)
 unfolding planRows
 plan-numbered ps = tt

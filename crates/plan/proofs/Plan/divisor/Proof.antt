@@ -1,6 +1,6 @@
 use borrow.Author.Needs.{needs}
-use Rattle.plan.specs.Allowed.{AllowedPlan, plan-allowed}
-use Rattle.plan.specs.Own.{divisor-refused, divisor-large, divisor-done}
+use Rattle.plan.specs.Told.{AllowedPlan}
+use Rattle.plan.specs.Own.{plan-passed, divisor-refused, divisor-large, divisor-done}
 use Rattle.plan.proofs.Plan.divisor.Statement.{statement}
 use Rattle.plan.proofs.Plan.divisor.Tie as tie
 use Rattle.plan.proofs.Plan.divisor.Reads as reads
@@ -15,7 +15,7 @@ returns : tie.Need-returns
 returns c = divisor-refused (c .before .before .args .self) (c .before .plan-refusal .ensures) (c .if1 .taken)
 
 allowed : (c : tie.Else1) → AllowedPlan (c .before .before .args .self)
-allowed c = plan-allowed _ (c .before .plan-refusal .ensures) (c .if1 .left)
+allowed c = plan-passed _ (c .before .plan-refusal .ensures) (c .if1 .left)
 
 scaled-requires : tie.Need-scaled-requires
 scaled-requires c κs = allowed c

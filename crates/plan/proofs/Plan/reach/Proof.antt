@@ -5,9 +5,8 @@ use borrow.Author.Needs.{needs}
 use Rattle.meaning.specs.Kernel.{tapReach}
 use Rattle.theory.specs.Kernel.{tapReach-width}
 use Rattle.plan.specs.declared.Plan.{Plan}
-use Rattle.plan.specs.Told.{stageOf}
-use Rattle.plan.specs.Allowed.{AllowedPlan, plan-allowed}
-use Rattle.plan.specs.Own.{reach-refused, reach-done}
+use Rattle.plan.specs.Told.{stageOf, AllowedPlan}
+use Rattle.plan.specs.Own.{plan-passed, reach-refused, reach-done}
 use Rattle.plan.proofs.Plan.reach.Statement.{statement}
 use Rattle.plan.proofs.Plan.reach.Tie as tie
 use Rattle.plan.proofs.Plan.reach.Reads as reads
@@ -26,7 +25,7 @@ within : (p : Plan) → AllowedPlan p → p .passes * tapReach (stageOf p) ≤ 8
 within p ok = let far : tapReach (stageOf p) ≤ 1024 = omega (arith, tapReach-width (stageOf p), ok .radius) in mul-le-mul (ok .passes) far
 
 allowed : (c : tie.Else1) → AllowedPlan (c .before .before .args .self)
-allowed c = plan-allowed _ (c .before .plan-refusal .ensures) (c .if1 .left)
+allowed c = plan-passed _ (c .before .plan-refusal .ensures) (c .if1 .left)
 
 tap-reach-requires : tie.Need-tap-reach-requires
 tap-reach-requires c κs = allowed c

@@ -1,6 +1,6 @@
 use mathlib.Core.Path.{_∙_, sym}
 use borrow.Author.Needs.{needs}
-use Rattle.theory.specs.Refusals.{plan-rows}
+use Rattle.theory.specs.Accepted.{plan-rows}
 use Rattle.plan.proofs.inner.plan_refusal.Statement.{statement}
 use Rattle.plan.proofs.inner.plan_refusal.Tie as tie
 use Rattle.plan.proofs.inner.plan_refusal.Reads as reads

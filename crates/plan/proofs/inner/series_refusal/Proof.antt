@@ -2,7 +2,7 @@ use mathlib.Core.Path.{_∙_, ap}
 use borrow.Author.Needs.{needs}
 use Rattle.meaning.specs.Refusals.{firstOf}
 use Rattle.theory.specs.Refusals.{refused-first, done-rest, plan-numbered}
-use Rattle.plan.specs.Allowed.{plan-allowed}
+use Rattle.plan.specs.Own.{plan-passed}
 use Rattle.plan.specs.Capped.{sizeRows-capped}
 use Rattle.plan.proofs.inner.series_refusal.Statement.{statement}
 use Rattle.plan.proofs.inner.series_refusal.Tie as tie
@@ -23,7 +23,7 @@ outside-requires : tie.Need-outside-requires
 outside-requires c κs = search needs
 
 scaled-requires : tie.Need-scaled-requires
-scaled-requires c κs = plan-allowed _ (c .before .before .plan-refusal .ensures) (c .before .if1 .left)
+scaled-requires c κs = plan-passed _ (c .before .before .plan-refusal .ensures) (c .before .if1 .left)
 
 size-refusal-requires : tie.Need-size-refusal-requires
 size-refusal-requires c κs = search needs

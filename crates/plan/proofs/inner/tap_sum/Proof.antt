@@ -4,7 +4,7 @@ use native.Mathlib.Omega.{arith}
 use borrow.Author.Needs.{needs}
 use Rattle.meaning.specs.Kernel.{tapSum}
 use Rattle.plan.specs.declared.Plan.{Plan}
-use Rattle.plan.specs.Allowed.{AllowedPlan}
+use Rattle.plan.specs.Told.{AllowedPlan}
 use Rattle.plan.proofs.inner.tap_sum.Statement.{statement}
 use Rattle.plan.proofs.inner.tap_sum.Tie as tie
 

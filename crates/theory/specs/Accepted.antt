@@ -1,0 +1,93 @@
+-- The rows of the table of numbers say the bounds: a call is done exactly where they hold.
+-- Laws: plan-rows (rows 1 to 4 of K equal stages, by the plan's numbers), plan-allowed, allowed-plan; series-allowed, allowed-series.
+use mathlib.Core.Path.{_≡_, refl, sym, _∙_, ap}
+use mathlib.Core.Bool.{Bool, true, _||_}
+use mathlib.Core.List.{List, [], _∷_, _++_}
+use Prim.Native.Nat.{ℕ, zero, suc, _*_, _≤_, _<_}
+use native.Mathlib.Omega.{arith}
+use lib.Dec.{leb, ltb}
+use lib.ListN.{length, replicate, length-replicate}
+use lib.IntN.{ℤ}
+use borrow.Author.Tests.{ltb-false, leb-false, le-ltb, lt-leb}
+use Rattle.meaning.specs.Limits.{least, maxPasses, maxRadius, maxInner, maxLength, maxResult}
+use Rattle.meaning.specs.Extension.{at}
+use Rattle.meaning.specs.Kernel.{Stage, plan, divisor}
+use Rattle.meaning.specs.Refusals.{Answer, Row, _when_, firstOf, rowAt, some, outside, differs, above, seriesOf, planRows, sizeRows, commonRows}
+use Rattle.meaning.specs.Calls.{sampleRow, smoothRows}
+use Rattle.meaning.specs.Bounds.{AllowedPlan, AllowedSeries}
+use Rattle.theory.specs.Refusals.{done, Off, Numbered, done-off, off-done, off-append, append-off, rowAt-off, rowAt-none, some-one, some-replicate, or-no, no-or, outside-no, no-outside, differs-no, no-differs, plan-numbered}
+
+some-stage : (t : Stage → Bool) (K : ℕ) (s : Stage) → some (some t) (replicate (suc K) s ∷ []) ≡ t s
+some-stage t K s = some-one (some t) (replicate (suc K) s) ∙ some-replicate t (suc K) s (omega arith)
+
+module _ (r b a : ℕ) where
+  pub plan-rows : (K : ℕ) → firstOf (planRows (plan r b a K ∷ [])) ≡ firstOf ((1 when outside least maxPasses K) ∷ (2 when ltb maxRadius r) ∷ (3 when outside least maxInner b) ∷ (4 when leb b a) ∷ [])
+  unfolding planRows firstOf some
+  plan-rows zero = refl
+  plan-rows (suc K) =
+      let s : Stage = record { radius = r; inner = b; edge = a } in
+      rw (
+        some-one (λ (ss : List Stage). outside least maxPasses (length ss)) (replicate (suc K) s),
+        length-replicate (suc K) s,
+        some-stage (λ (s : Stage). ltb maxRadius (s .radius)) K s,
+        some-stage (λ (s : Stage). outside least maxInner (s .inner)) K s,
+        some-stage (λ (s : Stage). leb (s .inner) (s .edge)) K s,
+      )
+
+  module _ (K : ℕ) where
+    pub plan-allowed : firstOf (planRows (plan r b a K ∷ [])) .number ≡ 0 → AllowedPlan r b a K
+    plan-allowed e =
+        let rows = done-off _ tt (sym (ap (λ (a : Answer). a .number) (plan-rows K)) ∙ e) in
+        let passes = outside-no _ _ _ (rows .0) in
+        let inner = outside-no _ _ _ (rows .1 .1 .0) in
+        record {
+          some = passes .0;
+          passes = passes .1;
+          radius = ltb-false _ _ (rows .1 .0);
+          heavy = inner .0;
+          inner = inner .1;
+          edge = leb-false _ _ (rows .1 .1 .1 .0);
+        }
+
+    pub allowed-plan : AllowedPlan r b a K → firstOf (planRows (plan r b a K ∷ [])) ≡ done
+    allowed-plan ok = plan-rows K ∙ off-done _ (no-outside (ok .some) (ok .passes), (le-ltb _ _ (ok .radius), (no-outside (ok .heavy) (ok .inner), (lt-leb _ _ (ok .edge), tt))))
+
+    module _ (M : ℕ) (f : List ℤ) (nr nw : ℕ) where
+      abbrev wrong : Bool
+      wrong = differs (length f) (length f) || differs nr (length f) || differs nw (length f)
+
+      abbrev shared : List Row
+      shared = sizeRows M (M * divisor (plan r b a K)) (outside least maxLength (length f)) wrong
+
+      abbrev rows : List Row
+      rows = smoothRows (seriesOf (plan r b a K) (length f)) M f nr nw
+
+      rows-numbered : Numbered rows
+      unfolding smoothRows planRows sizeRows rowAt
+      rows-numbered = tt
+
+      pub series-allowed : firstOf rows .number ≡ 0 → AllowedSeries r b a K M f nr nw
+      unfolding smoothRows sizeRows
+      series-allowed e =
+          let all = append-off (planRows (plan r b a K ∷ []) ++ shared) (sampleRow M f (λ i. true) ∷ []) (done-off rows rows-numbered e) in
+          let part = append-off (planRows (plan r b a K ∷ [])) shared (all .0) in
+          let size = part .1 in
+          let both = or-no (differs (length f) (length f) || differs nr (length f)) (differs nw (length f)) (size .1 .1 .1 .0) in
+          record {
+            allowed = plan-allowed (ap (λ (x : Answer). x .number) (off-done _ (part .0)));
+            bound = outside-no _ _ _ (size .0);
+            product = ltb-false _ _ (size .1 .0);
+            count = outside-no _ _ _ (size .1 .1 .0);
+            results = differs-no _ _ (or-no (differs (length f) (length f)) (differs nr (length f)) (both .0) .1);
+            work = differs-no _ _ (both .1);
+            samples = λ i l. ltb-false _ _ (rowAt-none 11 (length f) _ (all .1 .0) i l);
+          }
+
+      pub allowed-series : AllowedSeries r b a K M f nr nw → firstOf rows ≡ done
+      unfolding smoothRows sizeRows
+      allowed-series ok =
+          let plans : Off (planRows (plan r b a K ∷ [])) = done-off _ (plan-numbered _) (ap (λ (x : Answer). x .number) (allowed-plan (ok .allowed))) in
+          let lengths = no-or (no-or (no-differs {n = length f} refl) (no-differs (ok .results))) (no-differs (ok .work)) in
+          let size : Off shared = (no-outside (ok .bound .0) (ok .bound .1), (le-ltb _ _ (ok .product), (no-outside (ok .count .0) (ok .count .1), (lengths, tt)))) in
+          let samples : Off (sampleRow M f (λ i. true) ∷ []) = (rowAt-off 11 (length f) (λ i l. le-ltb _ _ (ok .samples i l)), tt) in
+          off-done rows (off-append (planRows (plan r b a K ∷ []) ++ shared) _ (off-append (planRows (plan r b a K ∷ [])) shared plans size) samples)
