@@ -6,14 +6,14 @@
 -- The weighted sum runs the pass itself: the survey's equation 33 (passAt-slide).
 -- Either step stays within twice the bound: M times the sum of the taps for one pass (step-size), M times the divisor for all
 -- (step-part, and step-replicate where the stages are equal).
--- Laws: window-range, window-slide, passAt-window, passAt-slide; window-size, step-size, step-part, step-replicate.
+-- Laws: window-none (of radius 0), window-grow, window-range, window-slide, passAt-window, passAt-slide; window-size, step-size, step-part, step-replicate.
 use mathlib.Core.Path.{_≡_, refl, sym, _∙_, ap}
 use mathlib.Core.List.{List, _∷_, _++_}
 use Prim.Native.Nat.{ℕ, suc, _+_, _*_, _-_, _≤_, _<_}
 use native.Mathlib.Nat.{le-mul-of-pos-right, mul-le-mul-left}
 use native.Mathlib.Omega.{arith}
 use lib.ListN.{replicate}
-use lib.IntN.{ℤ, pos, predℤ, sucℤ, _+ℤ_, _-ℤ_, _*ℤ_, -ℤ-one, +ℤ-one, +ℤ-negℤ-cancel}
+use lib.IntN.{ℤ, pos, predℤ, sucℤ, _+ℤ_, _-ℤ_, _*ℤ_, -ℤ-one, +ℤ-one, +ℤ-idr, +ℤ-negℤ-cancel}
 use Rattle.algebra.specs.Difference.{rep, diff, linear}
 use Rattle.algebra.specs.Expression.{_⊕_, _⊝_, _⊗_, con}
 use Rattle.algebra.specs.Solver.{ring, _≗_}
@@ -33,6 +33,14 @@ window e r n = sumWithin r (λ j. e (n -ℤ j))
 
 -- ---- identities
 module _ (e : ℤ → ℤ) where
+  pub window-none : (n : ℤ) → window e 0 n ≡ e n
+  unfolding window sumWithin
+  window-none n = ap e (+ℤ-idr n)
+
+  pub window-grow : (r : ℕ) (n : ℤ) → window e (suc r) n ≡ window e r n +ℤ (e (n -ℤ pos (suc r)) +ℤ e (n +ℤ pos (suc r)))
+  unfolding window sumWithin
+  window-grow r n = refl
+
   pub window-range : (r : ℕ) (n : ℤ) → window e r n ≡ sumZ (n -ℤ pos r) (2 * r + 1) e
   unfolding window
   window-range r n = within-interval r n e
