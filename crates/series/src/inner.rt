@@ -50,7 +50,7 @@ fn first_window(src: &[i64], radius: usize) -> i64
     requires { ⌜ Summable radius (now src) ⌝ }
     ensures { λ r. ⌜ r ≡ window (ext fold (now (src .entry))) radius (pos 0) ⌝ }
 {
-    let mut s = src[0];
+    let mut s = ahead(src, 0);
     let mut j: usize = 0;
     while j < radius {
         s += ahead(src, j) + ahead(src, j + 1);

@@ -91,20 +91,21 @@ pub record Step (s : Stage) (e : ℤ → ℤ) (B : ℕ) : Type 0 where
   pub between : (n x y : ℤ) → Abs (passAt s e n +ℤ pos (s .edge) *ℤ (e x -ℤ e y)) B
   pub written : (n : ℤ) → Abs (passAt s e n) B
 
-module _ (s : Stage) {M : ℕ} {e : ℤ → ℤ} (h : (n : ℤ) → Abs (e n) M) where
-  pub window-size : (n : ℤ) → Abs (window e (s .radius) n) ((2 * s .radius + 1) * M)
-  unfolding window
-  window-size n = within-abs (s .radius) M (λ j l. h (n -ℤ j))
+pub window-size : {M : ℕ} {e : ℤ → ℤ} → ((n : ℤ) → Abs (e n) M) → (r : ℕ) (n : ℤ) → Abs (window e r n) ((2 * r + 1) * M)
+unfolding window
+window-size {M} h r n = within-abs r M (λ j l. h (n -ℤ j))
 
+module _ (s : Stage) {M : ℕ} {e : ℤ → ℤ} (h : (n : ℤ) → Abs (e n) M) where
   pub step-size : 0 < s .inner → {B : ℕ} → 2 * (M * tapSum s) ≤ B → Step s e B
   unfolding tapSum
   step-size b l =
       let one = le-mul-of-pos-right M b in
       let more = le-mul-of-pos-right (s .radius * M) b in
+      let held = window-size h (s .radius) in
       record {
-        held = λ n. abs-weaken (window-size n) (omega (arith, one, more));
-        entered = λ n x. abs-weaken (abs-+ (window-size n) (h x)) (omega (arith, one, more));
-        weighed = λ n. abs-weaken (abs-* (abs-self (pos (s .inner))) (window-size n)) (omega arith);
+        held = λ n. abs-weaken (held n) (omega (arith, one, more));
+        entered = λ n x. abs-weaken (abs-+ (held n) (h x)) (omega (arith, one, more));
+        weighed = λ n. abs-weaken (abs-* (abs-self (pos (s .inner))) (held n)) (omega arith);
         pair = λ x y. abs-weaken (abs-+ (h x) (h y)) (omega (arith, one));
         edges = λ x y. abs-weaken (abs-* (abs-self (pos (s .edge))) (abs-+ (h x) (h y))) (omega arith);
         change = λ x y. abs-weaken (abs-- (h x) (h y)) (omega (arith, one));

@@ -5,14 +5,11 @@ use native.Mathlib.Omega.{arith}
 use lib.ListN.{length}
 use lib.IntN.{pos}
 use mir.Facts.{toZ-ofZ}
-use borrow.Author.Needs.{needs}
+use borrow.Author.Needs.{needs, sfits-of}
 use Rattle.meaning.specs.Extension.{at, ext}
 use Rattle.theory.specs.HalfSample.{half-sample}
 use Rattle.series.proofs.inner.ahead.Statement.{statement}
 use Rattle.series.proofs.inner.ahead.Tie as tie
-use Rattle.series.proofs.inner.ahead.Reads as reads
-use Rattle.series.proofs.inner.ahead.Lts as lts
-use Rattle.series.proofs.inner.fold_at.Reads as fold-at-reads
 
 fold-at-requires : tie.Need-fold-at-requires
 fold-at-requires c κs = search needs
@@ -28,7 +25,7 @@ shared-slice-copy-out-result c = inside c
 
 returns : tie.Need-returns
 unfolding ext
-returns c = toZ-ofZ (record { sfits = c .result .given }) ∙ ap (at (c .before .before .args .src .now)) (c .before .fold-at .ensures)
+returns c = toZ-ofZ (sfits-of (c .result .given)) ∙ ap (at (c .before .before .args .src .now)) (c .before .fold-at .ensures)
 
 pub ahead-spec : {M : Type 1} → statement M
 ahead-spec = tie.close (tie.spec fold-at-requires mul-result shared-slice-copy-out-result returns)

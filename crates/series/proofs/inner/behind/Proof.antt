@@ -5,15 +5,12 @@ use mathlib.Core.List.{List}
 use native.Mathlib.Omega.{arith}
 use lib.IntN.{ℤ, pos, _-ℤ_}
 use mir.Facts.{toZ-ofZ}
-use borrow.Author.Needs.{needs}
+use borrow.Author.Needs.{needs, sfits-of}
 use Rattle.algebra.specs.Difference.{⊖-is, ⊖-negsuc, sub-pos}
 use Rattle.meaning.specs.Extension.{fold, ext}
 use Rattle.theory.specs.HalfSample.{ext-negsuc}
 use Rattle.series.proofs.inner.behind.Statement.{statement}
 use Rattle.series.proofs.inner.behind.Tie as tie
-use Rattle.series.proofs.inner.behind.Reads as reads
-use Rattle.series.proofs.inner.behind.Lts as lts
-use Rattle.series.proofs.inner.ahead.Reads as ahead-reads
 
 ahead-requires : tie.Need-ahead-requires
 ahead-requires c κs = search needs
@@ -30,7 +27,7 @@ ahead-requires-2 c κs = search needs
 returns : tie.Need-returns
 returns c =
     let a = c .before .before .args in
-    toZ-ofZ (record { sfits = c .ahead .ok }) ∙ c .ahead .ensures ∙ ap (ext fold (a .src .now)) (sym (sub-pos (a .n) (a .d) (c .before .if1 .taken)))
+    toZ-ofZ (sfits-of (c .ahead .ok)) ∙ c .ahead .ensures ∙ ap (ext fold (a .src .now)) (sym (sub-pos (a .n) (a .d) (c .before .if1 .taken)))
 
 -- below 0
 mirrored : (f : List ℤ) (n d : ℕ) → n < d → ext fold f (pos (d - n - 1)) ≡ ext fold f (pos n -ℤ pos d)
@@ -39,7 +36,7 @@ mirrored f n d l = sym (ext-negsuc f (d - n - 1)) ∙ ap (ext fold f) (sym (⊖-
 returns-2 : tie.Need-returns-2
 returns-2 c =
     let a = c .before .before .args in
-    toZ-ofZ (record { sfits = c .ahead2 .ok }) ∙ c .ahead2 .ensures ∙ mirrored (a .src .now) (a .n) (a .d) (omega arith)
+    toZ-ofZ (sfits-of (c .ahead2 .ok)) ∙ c .ahead2 .ensures ∙ mirrored (a .src .now) (a .n) (a .d) (omega arith)
 
 pub behind-spec : {M : Type 1} → statement M
 behind-spec =

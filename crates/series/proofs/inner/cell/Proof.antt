@@ -3,8 +3,6 @@ use mir.Facts.{toZ-ofZ}
 use borrow.Author.Needs.{needs}
 use Rattle.series.proofs.inner.cell.Statement.{statement}
 use Rattle.series.proofs.inner.cell.Tie as tie
-use Rattle.series.proofs.inner.cell.Reads as reads
-use Rattle.series.proofs.inner.cell.Lts as lts
 
 mul-result : tie.Need-mul-result
 mul-result c = search needs

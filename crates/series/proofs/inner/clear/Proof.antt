@@ -8,8 +8,6 @@ use borrow.Author.Needs.{needs}
 use Rattle.series.specs.Fill.{fill-next, fill-done}
 use Rattle.series.proofs.inner.clear.Statement.{statement}
 use Rattle.series.proofs.inner.clear.Tie as tie
-use Rattle.series.proofs.inner.clear.Reads as reads
-use Rattle.series.proofs.inner.clear.Lts as lts
 
 abbrev Inv-loop : tie.InvT-loop
 Inv-loop dst₀ i₀ dst i = (i ≤ length dst₀) × (length dst ≡ length dst₀) × (take i dst ≡ take i (replicate (length dst₀) (pos 0)))

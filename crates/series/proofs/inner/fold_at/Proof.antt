@@ -8,8 +8,6 @@ use Rattle.meaning.specs.Extension.{emod, fold}
 use Rattle.theory.specs.HalfSample.{reflect-low, reflect-high, half-sample}
 use Rattle.series.proofs.inner.fold_at.Statement.{statement}
 use Rattle.series.proofs.inner.fold_at.Tie as tie
-use Rattle.series.proofs.inner.fold_at.Reads as reads
-use Rattle.series.proofs.inner.fold_at.Lts as lts
 
 returns : tie.Need-returns
 returns c = sym (half-sample .here (c .if1 .taken))

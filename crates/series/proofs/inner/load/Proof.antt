@@ -5,12 +5,10 @@ use native.Mathlib.Omega.{arith}
 use lib.ListN.{length, take, length-set}
 use mir.Syntax.{w32, w64}
 use mir.Facts.{toZ-ofZ}
-use borrow.Author.Needs.{needs}
+use borrow.Author.Needs.{needs, sfits-of}
 use Rattle.series.specs.Fill.{fill-next, fill-done}
 use Rattle.series.proofs.inner.load.Statement.{statement}
 use Rattle.series.proofs.inner.load.Tie as tie
-use Rattle.series.proofs.inner.load.Reads as reads
-use Rattle.series.proofs.inner.load.Lts as lts
 
 abbrev Inv-loop : tie.InvT-loop
 Inv-loop samples dst₀ i₀ dst i = (i ≤ length samples) × (length dst ≡ length samples) × (take i dst ≡ take i samples)
@@ -28,7 +26,7 @@ shared-slice-copy-out-dst : tie.Need-shared-slice-copy-out-dst Inv-loop μ-loop
 shared-slice-copy-out-dst c = search needs
 
 cast-dst : tie.Need-cast-dst Inv-loop μ-loop
-cast-dst c = rw (toZ-ofZ {w = w32} (record { sfits = c .dst .given })) (record { sfits = omega (arith, c .dst .given) })
+cast-dst c = rw (toZ-ofZ {w = w32} (sfits-of (c .dst .given))) (record { sfits = omega (arith, c .dst .given) })
 
 mul-t9 : tie.Need-mul-t9 Inv-loop μ-loop
 mul-t9 c = search needs
@@ -47,7 +45,7 @@ loop-again c =
     let l = c .before .before .loop in (
       omega arith,
       simp length-set (l .inv .1),
-      fill-next (c .before .before .before .args .samples .now) (l .dst) (l .i) (l .inv .2) _ (omega arith) (omega arith) (toZ-ofZ {w = w64} (cast-dst c) ∙ toZ-ofZ {w = w32} (record { sfits = c .dst .given })),
+      fill-next (c .before .before .before .args .samples .now) (l .dst) (l .i) (l .inv .2) _ (omega arith) (omega arith) (toZ-ofZ {w = w64} (cast-dst c) ∙ toZ-ofZ {w = w32} (sfits-of (c .dst .given))),
     )
 
 same-length : tie.Need-same-length Inv-loop μ-loop
