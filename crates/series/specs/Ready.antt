@@ -1,6 +1,7 @@
 -- What the steps of a smoothing ask.
+--   Summable r src     room for every window of radius up to r
 --   Passable p src n   one pass of p from src into n cells: as many cells, and room for every sum of the pass
-use Prim.Native.Nat.{ℕ, _*_, _≤_, _<_}
+use Prim.Native.Nat.{ℕ, _+_, _*_, _≤_, _<_}
 use mathlib.Core.Path.{_≡_}
 use mathlib.Core.List.{List}
 use lib.ListN.{length}
@@ -10,6 +11,12 @@ use Rattle.meaning.specs.Kernel.{tapSum}
 use Rattle.theory.specs.Lists.{Sized}
 use Rattle.plan.specs.declared.Plan.{Plan}
 use Rattle.plan.specs.Told.{stageOf, AllowedPlan}
+
+pub record Summable (r : ℕ) (src : List ℤ) : Type 0 where
+  pub some : 1 ≤ length src
+  pub largest : ℕ
+  pub sized : Sized largest src
+  pub room : (2 * r + 1) * largest ≤ maxResult
 
 pub record Passable (p : Plan) (src : List ℤ) (n : ℕ) : Type 0 where
   pub allowed : AllowedPlan p

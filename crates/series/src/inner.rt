@@ -1,14 +1,123 @@
 // One pass over a series, by a running sum; copies and zeros.
 ghost use mathlib.Core.Path.{_≡_};
-ghost use lib.ListN.{length};
-ghost use Rattle.meaning.specs.Extension.{fold};
+ghost use Prim.Native.Nat.{_*_, _^_, _≤_, _<_};
+ghost use lib.ListN.{length, replicate};
+ghost use lib.IntN.{pos, _+ℤ_, _-ℤ_, _*ℤ_};
+ghost use mir.Syntax.{w64};
+ghost use mir.Val.{SFits};
+ghost use Rattle.meaning.specs.Extension.{fold, ext};
 ghost use Rattle.meaning.specs.Smoothing as S;
+ghost use Rattle.theory.specs.Slide.{window};
 ghost use Rattle.plan.specs.Told.{stageOf};
-ghost use Rattle.series.specs.Ready.{Passable};
+ghost use Rattle.series.specs.Ready.{Summable, Passable};
 use plan::Plan;
+
+// Which of len cells the extension has at i.
+fn fold_at(i: usize, len: usize) -> usize
+    requires { ⌜ 1 ≤ len ⌝ }
+    requires { ⌜ 2 * len < 2 ^ 64 ⌝ }
+    ensures { λ r. ⌜ r ≡ fold len (pos i) ⌝ }
+{
+    if i < len {
+        return i;
+    }
+    let m = i % (2 * len);
+    if m < len { m } else { 2 * len - 1 - m }
+}
+
+// The extension of src at i.
+fn ahead(src: &[i64], i: usize) -> i64
+    requires { ⌜ 1 ≤ length (now src) ⌝ }
+    ensures { λ r. ⌜ r ≡ ext fold (now (src .entry)) (pos i) ⌝ }
+{
+    src[fold_at(i, src.len())]
+}
+
+// The extension of src at n - d. What stands at -1 - j stands at j too.
+fn behind(src: &[i64], n: usize, d: usize) -> i64
+    requires { ⌜ 1 ≤ length (now src) ⌝ }
+    ensures { λ r. ⌜ r ≡ ext fold (now (src .entry)) (pos n -ℤ pos d) ⌝ }
+{
+    if d <= n {
+        ahead(src, n - d)
+    } else {
+        ahead(src, d - n - 1)
+    }
+}
+
+// The window around 0, from the centre outward.
+fn first_window(src: &[i64], radius: usize) -> i64
+    requires { ⌜ Summable radius (now src) ⌝ }
+    ensures { λ r. ⌜ r ≡ window (ext fold (now (src .entry))) radius (pos 0) ⌝ }
+{
+    let mut s = ahead(src, 0);
+    let mut j: usize = 0;
+    while j < radius {
+        s += ahead(src, j) + ahead(src, j + 1);
+        j += 1;
+    }
+    s
+}
+
+// A window and the cells beside it, weighed.
+fn cell(inner: i64, edge: i64, w: i64, lo: i64, hi: i64) -> i64
+    requires { ⌜ SFits w64 (inner *ℤ w) ⌝ }
+    requires { ⌜ SFits w64 (lo +ℤ hi) ⌝ }
+    requires { ⌜ SFits w64 (edge *ℤ (lo +ℤ hi)) ⌝ }
+    requires { ⌜ SFits w64 (inner *ℤ w +ℤ edge *ℤ (lo +ℤ hi)) ⌝ }
+    ensures { λ r. ⌜ r ≡ inner *ℤ w +ℤ edge *ℤ (lo +ℤ hi) ⌝ }
+{
+    inner * w + edge * (lo + hi)
+}
+
+// The window one cell on: hi enters, first leaves.
+fn slide(w: i64, hi: i64, first: i64) -> i64
+    requires { ⌜ SFits w64 (w +ℤ hi) ⌝ }
+    requires { ⌜ SFits w64 (w +ℤ hi -ℤ first) ⌝ }
+    ensures { λ r. ⌜ r ≡ w +ℤ hi -ℤ first ⌝ }
+{
+    w + hi - first
+}
 
 // One pass of src into dst, every cell of it.
 pub fn pass(plan: Plan, src: &[i64], dst: &mut [i64])
     requires { ⌜ Passable plan (now src) (length (now dst)) ⌝ }
     ensures { λ _. ⌜ now (dst .exit) ≡ S.pass fold (stageOf plan) (now (src .entry)) ⌝ }
-{}
+{
+    let radius = plan.radius as usize;
+    let inner = plan.inner as i64;
+    let edge = plan.edge as i64;
+    let mut w = first_window(src, radius);
+    let mut n: usize = 0;
+    while n < src.len() {
+        let lo = behind(src, n, radius + 1);
+        let first = behind(src, n, radius);
+        let hi = ahead(src, n + radius + 1);
+        dst[n] = cell(inner, edge, w, lo, hi);
+        w = slide(w, hi, first);
+        n += 1;
+    }
+}
+
+// Copies the samples.
+pub fn load(samples: &[i32], dst: &mut [i64])
+    requires { ⌜ length (now dst) ≡ length (now samples) ⌝ }
+    ensures { λ _. ⌜ now (dst .exit) ≡ now (samples .entry) ⌝ }
+{
+    let mut i: usize = 0;
+    while i < samples.len() {
+        dst[i] = samples[i] as i64;
+        i += 1;
+    }
+}
+
+// Writes zeros.
+pub fn clear(dst: &mut [i64])
+    ensures { λ _. ⌜ now (dst .exit) ≡ replicate (length (now (dst .entry))) (pos 0) ⌝ }
+{
+    let mut i: usize = 0;
+    while i < dst.len() {
+        dst[i] = 0;
+        i += 1;
+    }
+}

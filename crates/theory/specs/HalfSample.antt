@@ -3,18 +3,20 @@
 --   half-sample-near   the Nearness
 -- Laws: emod-below, emod-small, emod-period, emod-shift (z and its remainder go on alike), emod-mirror;
 -- reflect-low, reflect-high, reflect-min (both, for omega);
--- fold-at (a place by its period), fold-period, fold-mirror (-1 - z reads as z does), fold-negsuc (the same of pos n).
-use mathlib.Core.Path.{_≡_, sym, _∙_, ap}
+-- fold-at (a place by its period), fold-period, fold-mirror (-1 - z reads as z does), fold-negsuc (the same of pos n), ext-negsuc (of a series).
+use mathlib.Core.Path.{_≡_, refl, sym, _∙_, ap}
+use mathlib.Core.List.{List, [], _∷_}
 use Prim.Native.Nat.{ℕ, suc, _+_, _*_, _-_, _/_, _≤_, _<_, min}
 use native.Mathlib.Decide.{decLt}
 use native.Mathlib.Omega.{arith}
+use lib.ListN.{length}
 use lib.IntN.{ℤ, pos, negsuc, natAbs, _+ℤ_, _-ℤ_, _*ℤ_}
 use borrow.Author.Tests.{lt-ltb, le-ltb}
 use Rattle.algebra.specs.Difference.{rep, diff, linear}
 use Rattle.algebra.specs.Ring.{ac}
 use Rattle.algebra.specs.Division.{Divided, divided-pos, divided-negsuc, divided-shift, divided-unique}
 use Rattle.algebra.specs.Size.{natAbs-sub}
-use Rattle.meaning.specs.Extension.{emod, reflect, fold}
+use Rattle.meaning.specs.Extension.{at, emod, reflect, fold, ext}
 use Rattle.meaning.specs.Smoothing.{apart}
 use Rattle.theory.specs.Folding.{Follows, forward, backward, Folding, Nearness}
 
@@ -118,6 +120,11 @@ module _ (N : ℕ) (h : 0 < N) where
 
 pub half-sample : Folding fold
 half-sample = record { below = λ {N}. fold-below N; here = λ {N} l. fold-small N (omega arith) ∙ reflect-low l; follows = λ {N}. fold-follows N }
+
+pub ext-negsuc : (f : List ℤ) (n : ℕ) → ext fold f (negsuc n) ≡ ext fold f (pos n)
+unfolding ext
+ext-negsuc [] n = refl
+ext-negsuc (x ∷ f) n = ap (at (x ∷ f)) (fold-negsuc (length (x ∷ f)) (omega arith) n)
 
 -- ---- nearness
 -- from 0 on: what stands at a reads a sample no farther out than a, and no farther from any sample n

@@ -6,14 +6,14 @@
 -- The weighted sum runs the pass itself: the survey's equation 33 (passAt-slide).
 -- Either step stays within twice the bound: M times the sum of the taps for one pass (step-size), M times the divisor for all
 -- (step-part, and step-replicate where the stages are equal).
--- Laws: window-range, window-slide, passAt-window, passAt-slide; window-size, step-size, step-part, step-replicate.
+-- Laws: window-none (of radius 0), window-grow, window-range, window-slide, passAt-window, passAt-slide; window-size, step-size, step-part, step-replicate.
 use mathlib.Core.Path.{_≡_, refl, sym, _∙_, ap}
 use mathlib.Core.List.{List, _∷_, _++_}
 use Prim.Native.Nat.{ℕ, suc, _+_, _*_, _-_, _≤_, _<_}
 use native.Mathlib.Nat.{le-mul-of-pos-right, mul-le-mul-left}
 use native.Mathlib.Omega.{arith}
 use lib.ListN.{replicate}
-use lib.IntN.{ℤ, pos, predℤ, sucℤ, _+ℤ_, _-ℤ_, _*ℤ_, -ℤ-one, +ℤ-one, +ℤ-negℤ-cancel}
+use lib.IntN.{ℤ, pos, predℤ, sucℤ, _+ℤ_, _-ℤ_, _*ℤ_, -ℤ-one, +ℤ-one, +ℤ-idr, +ℤ-negℤ-cancel}
 use Rattle.algebra.specs.Difference.{rep, diff, linear}
 use Rattle.algebra.specs.Expression.{_⊕_, _⊝_, _⊗_, con}
 use Rattle.algebra.specs.Solver.{ring, _≗_}
@@ -33,6 +33,14 @@ window e r n = sumWithin r (λ j. e (n -ℤ j))
 
 -- ---- identities
 module _ (e : ℤ → ℤ) where
+  pub window-none : (n : ℤ) → window e 0 n ≡ e n
+  unfolding window sumWithin
+  window-none n = ap e (+ℤ-idr n)
+
+  pub window-grow : (r : ℕ) (n : ℤ) → window e (suc r) n ≡ window e r n +ℤ (e (n -ℤ pos (suc r)) +ℤ e (n +ℤ pos (suc r)))
+  unfolding window sumWithin
+  window-grow r n = refl
+
   pub window-range : (r : ℕ) (n : ℤ) → window e r n ≡ sumZ (n -ℤ pos r) (2 * r + 1) e
   unfolding window
   window-range r n = within-interval r n e
@@ -83,20 +91,21 @@ pub record Step (s : Stage) (e : ℤ → ℤ) (B : ℕ) : Type 0 where
   pub between : (n x y : ℤ) → Abs (passAt s e n +ℤ pos (s .edge) *ℤ (e x -ℤ e y)) B
   pub written : (n : ℤ) → Abs (passAt s e n) B
 
-module _ (s : Stage) {M : ℕ} {e : ℤ → ℤ} (h : (n : ℤ) → Abs (e n) M) where
-  pub window-size : (n : ℤ) → Abs (window e (s .radius) n) ((2 * s .radius + 1) * M)
-  unfolding window
-  window-size n = within-abs (s .radius) M (λ j l. h (n -ℤ j))
+pub window-size : {M : ℕ} {e : ℤ → ℤ} → ((n : ℤ) → Abs (e n) M) → (r : ℕ) (n : ℤ) → Abs (window e r n) ((2 * r + 1) * M)
+unfolding window
+window-size {M} h r n = within-abs r M (λ j l. h (n -ℤ j))
 
+module _ (s : Stage) {M : ℕ} {e : ℤ → ℤ} (h : (n : ℤ) → Abs (e n) M) where
   pub step-size : 0 < s .inner → {B : ℕ} → 2 * (M * tapSum s) ≤ B → Step s e B
   unfolding tapSum
   step-size b l =
       let one = le-mul-of-pos-right M b in
       let more = le-mul-of-pos-right (s .radius * M) b in
+      let held = window-size h (s .radius) in
       record {
-        held = λ n. abs-weaken (window-size n) (omega (arith, one, more));
-        entered = λ n x. abs-weaken (abs-+ (window-size n) (h x)) (omega (arith, one, more));
-        weighed = λ n. abs-weaken (abs-* (abs-self (pos (s .inner))) (window-size n)) (omega arith);
+        held = λ n. abs-weaken (held n) (omega (arith, one, more));
+        entered = λ n x. abs-weaken (abs-+ (held n) (h x)) (omega (arith, one, more));
+        weighed = λ n. abs-weaken (abs-* (abs-self (pos (s .inner))) (held n)) (omega arith);
         pair = λ x y. abs-weaken (abs-+ (h x) (h y)) (omega (arith, one));
         edges = λ x y. abs-weaken (abs-* (abs-self (pos (s .edge))) (abs-+ (h x) (h y))) (omega arith);
         change = λ x y. abs-weaken (abs-- (h x) (h y)) (omega (arith, one));

@@ -1,0 +1,75 @@
+-- `inner::load` meets its contract. The loop's invariant: the first i cells are copied. Assumes nothing.
+use Prim.Native.Nat.{_-_, _≤_}
+use mathlib.Core.Path.{_≡_, _∙_}
+use native.Mathlib.Omega.{arith}
+use lib.ListN.{length, take, length-set}
+use mir.Syntax.{w32, w64}
+use mir.Facts.{toZ-ofZ}
+use borrow.Author.Needs.{needs, sfits-of}
+use Rattle.series.specs.Fill.{fill-next, fill-done}
+use Rattle.series.proofs.inner.load.Statement.{statement}
+use Rattle.series.proofs.inner.load.Tie as tie
+
+abbrev Inv-loop : tie.InvT-loop
+Inv-loop samples dst₀ i₀ dst i = (i ≤ length samples) × (length dst ≡ length samples) × (take i dst ≡ take i samples)
+
+abbrev μ-loop : tie.MeasureT-loop
+μ-loop samples dst₀ i₀ dst i = length samples - i
+
+loop-holds : tie.Need-loop-holds Inv-loop μ-loop
+loop-holds c = search needs
+
+mul-dst : tie.Need-mul-dst Inv-loop μ-loop
+mul-dst c = search needs
+
+shared-slice-copy-out-dst : tie.Need-shared-slice-copy-out-dst Inv-loop μ-loop
+shared-slice-copy-out-dst c = search needs
+
+cast-dst : tie.Need-cast-dst Inv-loop μ-loop
+cast-dst c = rw (toZ-ofZ {w = w32} (sfits-of (c .dst .given))) (record { sfits = omega (arith, c .dst .given) })
+
+mul-t9 : tie.Need-mul-t9 Inv-loop μ-loop
+mul-t9 c = search needs
+
+slice-set-from-dst : tie.Need-slice-set-from-dst Inv-loop μ-loop
+slice-set-from-dst c = search needs
+
+add-i : tie.Need-add-i Inv-loop μ-loop
+add-i c = search needs
+
+loop-less : tie.Need-loop-less Inv-loop μ-loop
+loop-less c = search needs
+
+loop-again : tie.Need-loop-again Inv-loop μ-loop
+loop-again c =
+    let l = c .before .before .loop in (
+      omega arith,
+      simp length-set (l .inv .1),
+      fill-next (c .before .before .before .args .samples .now) (l .dst) (l .i) (l .inv .2) _ (omega arith) (omega arith) (toZ-ofZ {w = w64} (cast-dst c) ∙ toZ-ofZ {w = w32} (sfits-of (c .dst .given))),
+    )
+
+same-length : tie.Need-same-length Inv-loop μ-loop
+same-length c = search needs
+
+returns : tie.Need-returns Inv-loop μ-loop
+returns c =
+    let l = c .before .loop in
+    fill-done (c .before .before .args .samples .now) (l .dst) (l .i) (l .inv .2) (omega arith) (omega arith)
+
+pub load-spec : {M : Type 1} → statement M
+load-spec =
+    tie.close
+    (tie.spec
+    Inv-loop
+    μ-loop
+    loop-holds
+    mul-dst
+    shared-slice-copy-out-dst
+    cast-dst
+    mul-t9
+    slice-set-from-dst
+    add-i
+    loop-less
+    loop-again
+    same-length
+    returns)
