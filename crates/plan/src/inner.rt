@@ -1,6 +1,6 @@
 // The tests that calls share. A number answered is the first row that applies, 0 where none does.
 ghost use mathlib.Core.Path.{_≡_};
-ghost use mathlib.Core.Bool.{Bool};
+ghost use mathlib.Core.Bool.{_||_};
 ghost use mathlib.Core.List.{[], _∷_};
 ghost use Prim.Native.Nat.{_+_, _*_, _≤_};
 ghost use lib.ListN.{length};
@@ -22,6 +22,16 @@ pub fn outside(low: u64, high: u64, x: u64) -> bool
         return true;
     }
     high < x
+}
+
+// Is either length not the one asked?
+pub fn lengths_differ(a: usize, asked_a: usize, b: usize, asked_b: usize) -> bool
+    ensures { λ r. ⌜ r ≡ R.differs a «asked_a» || R.differs b «asked_b» ⌝ }
+{
+    if a != asked_a {
+        return true;
+    }
+    b != asked_b
 }
 
 // The first of four rows, numbered from `number` on, whose test is true.

@@ -1,0 +1,33 @@
+use borrow.Author.Needs.{needs}
+use Rattle.series.proofs.refusal.Statement.{statement}
+use Rattle.series.proofs.refusal.Tie as tie
+use Rattle.series.proofs.refusal.Reads as reads
+use Rattle.series.proofs.refusal.Lts as lts
+use Rattle.plan.proofs.inner.lengths_differ.Reads as lengths-differ-reads
+use Rattle.plan.proofs.inner.sample_refusal.Reads as sample-refusal-reads
+use Rattle.plan.proofs.inner.series_refusal.Reads as series-refusal-reads
+
+lengths-differ-requires : tie.Need-lengths-differ-requires
+lengths-differ-requires c κs = search needs
+
+series-refusal-requires : tie.Need-series-refusal-requires
+series-refusal-requires c κs = search needs
+
+returns : tie.Need-returns
+returns c = ?
+
+sample-refusal-requires : tie.Need-sample-refusal-requires
+sample-refusal-requires c κs = search needs
+
+returns-2 : tie.Need-returns-2
+returns-2 c = ?
+
+pub refusal-spec : {M : Type 1} → statement M
+refusal-spec =
+    tie.close
+    (tie.spec
+    lengths-differ-requires
+    series-refusal-requires
+    returns
+    sample-refusal-requires
+    returns-2)

@@ -1,0 +1,79 @@
+-- The steps of a smoothing call, each over plain lists.
+-- Laws: rows-tested (the rows as the code tests them), ready (what an answer of 0 leaves), swapped;
+-- passable (each pass has room), after-none, after-next; call-refused, call-done.
+use Prim.Native.Nat.{ℕ, suc, _*_, _-_, _≤_, _<_}
+use mathlib.Core.Path.{_≡_, refl, sym, _∙_, ap}
+use mathlib.Core.Bool.{Bool, true, _||_, _&&_}
+use mathlib.Core.List.{List, [], _∷_, _++_}
+use native.Mathlib.Nat.{mul-le-mul-left, mul-comm, mul-assoc, le-trans}
+use native.Mathlib.Omega.{arith}
+use lib.ListN.{length, replicate}
+use lib.IntN.{ℤ, pos}
+use borrow.Author.Tests.{le-leb, lt-ltb}
+use Rattle.meaning.specs.Limits.{maxResult}
+use Rattle.meaning.specs.Extension.{at, fold}
+use Rattle.meaning.specs.Kernel.{Stage, divisor, tapSum}
+use Rattle.meaning.specs.Smoothing.{results, pass}
+use Rattle.meaning.specs.Refusals.{Answer, Row, firstOf, differs, within, above, seriesOf, commonRows, zeros}
+use Rattle.meaning.specs.Calls.{sampleRow, smoothRows, smoothed, smoothSeries}
+use Rattle.meaning.specs.Bounds.{AllowedSeries}
+use Rattle.theory.specs.HalfSample.{half-sample}
+use Rattle.theory.specs.Lists.{sized}
+use Rattle.theory.specs.Stages.{inner-replicate, divisor-cons, divisor-part, replicate-part}
+use Rattle.theory.specs.Passes.{length-results, results-none, results-cons}
+use Rattle.theory.specs.Sizes.{results-size}
+use Rattle.theory.specs.Refusals.{rowAt-ext, no-differs, ifDone-done, ifDone-refused}
+use Rattle.theory.specs.Accepted.{series-allowed}
+use Rattle.plan.specs.declared.Plan.{Plan}
+use Rattle.plan.specs.Told.{stageOf, stagesOf}
+use Rattle.series.specs.Contract.{Gives}
+use Rattle.series.specs.Ready.{Ready, Passable, after}
+
+-- ---- the test
+pub rows-tested : (ss : List Stage) (M : ℕ) (f : List ℤ) (nr nw : ℕ) → smoothRows (seriesOf ss (length f)) M f nr nw
+    ≡ commonRows (seriesOf ss (length f)) M (differs nr (length f) || differs nw (length f)) ++ sampleRow M f (within 0 (length f)) ∷ []
+unfolding smoothRows
+rows-tested ss M f nr nw = rw (no-differs {n = length f} refl, rowAt-ext 11 (length f) {t = λ i. true && above M (at f i)} {u = λ i. within 0 (length f) i && above M (at f i)} (λ i l. rw (le-leb 0 i (omega arith), lt-ltb i (length f) l)))
+
+-- ---- the passes
+pub swapped : {p : Plan} {f : List ℤ} {nd no : ℕ} → Ready p f nd no → Ready p f no nd
+swapped h =
+    let a = h .allowed in
+    record { bound = h .bound; allowed = record { allowed = a .allowed; bound = a .bound; product = a .product; count = a .count; results = a .work; work = a .results; samples = a .samples } }
+
+pub after-none : {p : Plan} {f dst : List ℤ} → dst ≡ f → dst ≡ after 0 p f
+after-none {f = f} e = e ∙ sym (results-none half-sample f)
+
+pub after-next : {p : Plan} {f src dst : List ℤ} {k : ℕ} → src ≡ after k p f → dst ≡ pass fold (stageOf p) src → dst ≡ after (suc k) p f
+after-next {p} {f} {k = k} s d = d ∙ ap (pass fold (stageOf p)) s ∙ sym (results-cons half-sample (stageOf p) (replicate k (stageOf p)) f)
+
+module _ {p : Plan} {f : List ℤ} {nd no : ℕ} (h : Ready p f nd no) where
+  room : {k : ℕ} → k < p .passes → h .bound * divisor (replicate k (stageOf p)) * tapSum (stageOf p) ≤ maxResult
+  room {k} l = ?
+
+  pub passable : {k : ℕ} {src : List ℤ} {n : ℕ} → k < p .passes → src ≡ after k p f → n ≡ nd → Passable p src n
+  passable {k} {src} l e s =
+      let same : length src ≡ length f = ap length e ∙ length-results fold (replicate k (stageOf p)) f in
+      let a = h .allowed in
+      record {
+        allowed = a .allowed;
+        some = omega (arith, a .count);
+        few = omega (arith, a .count);
+        same = s ∙ a .results ∙ sym same;
+        largest = h .bound * divisor (replicate k (stageOf p));
+        sized = rw e (results-size fold (sized f (λ i l. record { bound = a .samples i l })) (replicate k (stageOf p)));
+        room = room l;
+      }
+
+-- ---- the two ends of a call whose test answered a
+module _ (p : Plan) (M : ℕ) (f r w : List ℤ) {a : Answer} (e : a ≡ firstOf (smoothRows (seriesOf (stagesOf p) (length f)) M f (length r) (length w))) where
+  pub ready : a .number ≡ 0 → Ready p f (length r) (length w)
+  ready z = record { bound = M; allowed = series-allowed (p .radius) (p .inner) (p .edge) (p .passes) M f (length r) (length w) (sym (ap (λ (x : Answer). x .number) e) ∙ z) }
+
+  pub call-refused : (a .number ≡ 0 → ⊥) → Gives (smoothSeries fold (stagesOf p) M f r w) a r w
+  unfolding smoothed
+  call-refused h = rw (← e) (record { answer = refl; results = sym (ifDone-refused a _ r h); work = sym (ifDone-refused a _ w h) })
+
+  pub call-done : {res wrk : List ℤ} → a .number ≡ 0 → res ≡ after (p .passes) p f → wrk ≡ zeros w → Gives (smoothSeries fold (stagesOf p) M f r w) a res wrk
+  unfolding smoothed
+  call-done z s t = rw (← e) (record { answer = refl; results = s ∙ sym (ifDone-done a _ r z); work = t ∙ sym (ifDone-done a _ w z) })
