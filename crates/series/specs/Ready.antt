@@ -1,7 +1,7 @@
 -- What the steps of a smoothing ask.
 --   Summable r src     room for every window of radius up to r
 --   Passable p src n   one pass of p from src into n cells: as many cells, and room for every sum of the pass
-use Prim.Native.Nat.{ℕ, _+_, _*_, _≤_, _<_}
+use Prim.Native.Nat.{ℕ, _+_, _*_, _≤_}
 use mathlib.Core.Path.{_≡_}
 use mathlib.Core.List.{List}
 use lib.ListN.{length}
