@@ -3,7 +3,7 @@
 --   after k p f        the samples f after k passes of p
 --   Ready p f nd no    all that is left to test: the bounds hold under some bound on the samples, with nd and no cells to write
 --   Passable p src n   one pass of p from src into n cells: as many cells, and room for every sum of the pass
-use Prim.Native.Nat.{ℕ, _+_, _*_, _≤_, _<_}
+use Prim.Native.Nat.{ℕ, _+_, _*_, _≤_}
 use mathlib.Core.Path.{_≡_}
 use mathlib.Core.List.{List}
 use lib.ListN.{length, replicate}

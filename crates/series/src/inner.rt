@@ -18,6 +18,7 @@ fn fold_at(i: usize, len: usize) -> usize
     requires { ⌜ 2 * len < 2 ^ 64 ⌝ }
     ensures { λ r. ⌜ r ≡ fold len (pos i) ⌝ }
 {
+    // spares the division
     if i < len {
         return i;
     }
@@ -93,7 +94,8 @@ pub fn pass(plan: Plan, src: &[i64], dst: &mut [i64])
         let lo = behind(src, n, radius + 1);
         let first = behind(src, n, radius);
         let hi = ahead(src, n + radius + 1);
-        dst[n] = cell(inner, edge, w, lo, hi);
+        let v = cell(inner, edge, w, lo, hi);
+        dst[n] = v;
         w = slide(w, hi, first);
         n += 1;
     }
@@ -106,7 +108,8 @@ pub fn load(samples: &[i32], dst: &mut [i64])
 {
     let mut i: usize = 0;
     while i < samples.len() {
-        dst[i] = samples[i] as i64;
+        let v = samples[i] as i64;
+        dst[i] = v;
         i += 1;
     }
 }

@@ -3,7 +3,8 @@
 --   half-sample-near   the Nearness
 -- Laws: emod-below, emod-small, emod-period, emod-shift (z and its remainder go on alike), emod-mirror;
 -- reflect-low, reflect-high, reflect-min (both, for omega);
--- fold-at (a place by its period), fold-period, fold-mirror (-1 - z reads as z does), fold-negsuc (the same of pos n), ext-negsuc (of a series).
+-- fold-at (a place by its period), fold-period, fold-mirror (-1 - z reads as z does),
+-- fold-negsuc (the same of pos n), ext-negsuc (of a series).
 use mathlib.Core.Path.{_≡_, refl, sym, _∙_, ap}
 use mathlib.Core.List.{List, [], _∷_}
 use Prim.Native.Nat.{ℕ, suc, _+_, _*_, _-_, _/_, _≤_, _<_, min}

@@ -6,7 +6,8 @@
 -- The weighted sum runs the pass itself: the survey's equation 33 (passAt-slide).
 -- Either step stays within twice the bound: M times the sum of the taps for one pass (step-size), M times the divisor for all
 -- (step-part, and step-replicate where the stages are equal).
--- Laws: window-none (of radius 0), window-grow, window-range, window-slide, passAt-window, passAt-slide; window-size, step-size, step-part, step-replicate.
+-- Laws: window-none (of radius 0), window-grow, window-range, window-slide, passAt-window, passAt-slide;
+-- window-size, step-size, step-part, step-replicate.
 use mathlib.Core.Path.{_≡_, refl, sym, _∙_, ap}
 use mathlib.Core.List.{List, _∷_, _++_}
 use Prim.Native.Nat.{ℕ, suc, _+_, _*_, _-_, _≤_, _<_}

@@ -19,20 +19,20 @@ abbrev μ-loop : tie.MeasureT-loop
 loop-holds : tie.Need-loop-holds Inv-loop μ-loop
 loop-holds c = search needs
 
-mul-dst : tie.Need-mul-dst Inv-loop μ-loop
-mul-dst c = search needs
+mul-v : tie.Need-mul-v Inv-loop μ-loop
+mul-v c = search needs
 
-shared-slice-copy-out-dst : tie.Need-shared-slice-copy-out-dst Inv-loop μ-loop
-shared-slice-copy-out-dst c = search needs
+shared-slice-copy-out-v : tie.Need-shared-slice-copy-out-v Inv-loop μ-loop
+shared-slice-copy-out-v c = search needs
 
-cast-dst : tie.Need-cast-dst Inv-loop μ-loop
-cast-dst c = rw (toZ-ofZ {w = w32} (sfits-of (c .dst .given))) (record { sfits = omega (arith, c .dst .given) })
+cast-v : tie.Need-cast-v Inv-loop μ-loop
+cast-v c = rw (toZ-ofZ {w = w32} (sfits-of (c .v .given))) (record { sfits = omega (arith, c .v .given) })
 
-mul-t9 : tie.Need-mul-t9 Inv-loop μ-loop
-mul-t9 c = search needs
+mul-v-2 : tie.Need-mul-v-2 Inv-loop μ-loop
+mul-v-2 c = search needs
 
-slice-set-from-dst : tie.Need-slice-set-from-dst Inv-loop μ-loop
-slice-set-from-dst c = search needs
+slice-set-from-v : tie.Need-slice-set-from-v Inv-loop μ-loop
+slice-set-from-v c = search needs
 
 add-i : tie.Need-add-i Inv-loop μ-loop
 add-i c = search needs
@@ -45,7 +45,7 @@ loop-again c =
     let l = c .before .before .loop in (
       omega arith,
       simp length-set (l .inv .1),
-      fill-next (c .before .before .before .args .samples .now) (l .dst) (l .i) (l .inv .2) _ (omega arith) (omega arith) (toZ-ofZ {w = w64} (cast-dst c) ∙ toZ-ofZ {w = w32} (sfits-of (c .dst .given))),
+      fill-next (c .before .before .before .args .samples .now) (l .dst) (l .i) (l .inv .2) _ (omega arith) (omega arith) (toZ-ofZ {w = w64} (cast-v c) ∙ toZ-ofZ {w = w32} (sfits-of (c .v .given))),
     )
 
 same-length : tie.Need-same-length Inv-loop μ-loop
@@ -63,11 +63,11 @@ load-spec =
     Inv-loop
     μ-loop
     loop-holds
-    mul-dst
-    shared-slice-copy-out-dst
-    cast-dst
-    mul-t9
-    slice-set-from-dst
+    mul-v
+    shared-slice-copy-out-v
+    cast-v
+    mul-v-2
+    slice-set-from-v
     add-i
     loop-less
     loop-again

@@ -72,11 +72,11 @@ turn c = record {
 cell-requires : tie.Need-cell-requires Inv-loop μ-loop
 cell-requires c κs = cell-fits (c .before .before .before .before .before .before .before .before .pre) (turn c)
 
-mul-t12 : tie.Need-mul-t12 Inv-loop μ-loop
-mul-t12 c = search needs
+mul-v : tie.Need-mul-v Inv-loop μ-loop
+mul-v c = search needs
 
-slice-set-from-dst : tie.Need-slice-set-from-dst Inv-loop μ-loop
-slice-set-from-dst c = search needs
+slice-set-from-v : tie.Need-slice-set-from-v Inv-loop μ-loop
+slice-set-from-v c = search needs
 
 slide-requires : tie.Need-slide-requires Inv-loop μ-loop
 slide-requires c κs = slide-fits (c .before .before .before .before .before .before .before .before .before .pre) (turn (c .before))
@@ -123,8 +123,8 @@ pass-spec =
     add-ahead-2
     ahead-requires
     cell-requires
-    mul-t12
-    slice-set-from-dst
+    mul-v
+    slice-set-from-v
     slide-requires
     add-n
     loop-less
