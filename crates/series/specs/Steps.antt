@@ -1,5 +1,5 @@
 -- The steps of a smoothing call, each over plain lists.
--- Laws: rows-tested (the rows as the code tests them), ready (what an answer of 0 leaves), swapped;
+-- Laws: test-refused, test-rest (the rows in two parts, as the code tests them); ready (what an answer of 0 leaves), swapped;
 -- passable (each pass has room), after-none, after-next; call-refused, call-done.
 use Prim.Native.Nat.{ℕ, suc, _*_, _-_, _≤_, _<_}
 use mathlib.Core.Path.{_≡_, refl, sym, _∙_, ap}
@@ -22,7 +22,7 @@ use Rattle.theory.specs.Lists.{sized}
 use Rattle.theory.specs.Stages.{inner-replicate, divisor-cons, divisor-part, replicate-part}
 use Rattle.theory.specs.Passes.{length-results, results-none, results-cons}
 use Rattle.theory.specs.Sizes.{results-size}
-use Rattle.theory.specs.Refusals.{rowAt-ext, no-differs, ifDone-done, ifDone-refused}
+use Rattle.theory.specs.Refusals.{refused-first, done-rest, rowAt-ext, no-differs, common-numbered, ifDone-done, ifDone-refused}
 use Rattle.theory.specs.Accepted.{series-allowed}
 use Rattle.plan.specs.declared.Plan.{Plan}
 use Rattle.plan.specs.Told.{stageOf, stagesOf}
@@ -30,10 +30,20 @@ use Rattle.series.specs.Contract.{Gives}
 use Rattle.series.specs.Ready.{Ready, Passable, after}
 
 -- ---- the test
-pub rows-tested : (ss : List Stage) (M : ℕ) (f : List ℤ) (nr nw : ℕ) → smoothRows (seriesOf ss (length f)) M f nr nw
-    ≡ commonRows (seriesOf ss (length f)) M (differs nr (length f) || differs nw (length f)) ++ sampleRow M f (within 0 (length f)) ∷ []
-unfolding smoothRows
-rows-tested ss M f nr nw = rw (no-differs {n = length f} refl, rowAt-ext 11 (length f) {t = λ i. true && above M (at f i)} {u = λ i. within 0 (length f) i && above M (at f i)} (λ i l. rw (le-leb 0 i (omega arith), lt-ltb i (length f) l)))
+module _ (ss : List Stage) (M : ℕ) (f : List ℤ) (nr nw : ℕ) where
+  rows-tested : smoothRows (seriesOf ss (length f)) M f nr nw ≡ commonRows (seriesOf ss (length f)) M (differs nr (length f) || differs nw (length f)) ++ sampleRow M f (within 0 (length f)) ∷ []
+  unfolding smoothRows
+  rows-tested = rw (no-differs {n = length f} refl, rowAt-ext 11 (length f) {t = λ i. true && above M (at f i)} {u = λ i. within 0 (length f) i && above M (at f i)} (λ i l. rw (le-leb 0 i (omega arith), lt-ltb i (length f) l)))
+
+  module _ {a : Answer} {wrong : Bool} (e : a ≡ firstOf (commonRows (seriesOf ss (length f)) M wrong)) (w : wrong ≡ (differs nr (length f) || differs nw (length f))) where
+    common : a ≡ firstOf (commonRows (seriesOf ss (length f)) M (differs nr (length f) || differs nw (length f)))
+    common = e ∙ ap (λ b. firstOf (commonRows (seriesOf ss (length f)) M b)) w
+
+    pub test-refused : (a .number ≡ 0 → ⊥) → a ≡ firstOf (smoothRows (seriesOf ss (length f)) M f nr nw)
+    test-refused h = rw rows-tested (refused-first _ _ common h)
+
+    pub test-rest : a .number ≡ 0 → {b : Answer} → b ≡ firstOf (sampleRow M f (within 0 (length f)) ∷ []) → b ≡ firstOf (smoothRows (seriesOf ss (length f)) M f nr nw)
+    test-rest z g = rw rows-tested (done-rest _ _ (common-numbered (seriesOf ss (length f)) M _) common z g)
 
 -- ---- the passes
 pub swapped : {p : Plan} {f : List ℤ} {nd no : ℕ} → Ready p f nd no → Ready p f no nd
@@ -41,15 +51,19 @@ swapped h =
     let a = h .allowed in
     record { bound = h .bound; allowed = record { allowed = a .allowed; bound = a .bound; product = a .product; count = a .count; results = a .work; work = a .results; samples = a .samples } }
 
-pub after-none : {p : Plan} {f dst : List ℤ} → dst ≡ f → dst ≡ after 0 p f
-after-none {f = f} e = e ∙ sym (results-none half-sample f)
+pub after-none : (p : Plan) (f : List ℤ) {dst : List ℤ} → dst ≡ f → dst ≡ after 0 p f
+after-none p f e = e ∙ sym (results-none half-sample f)
 
-pub after-next : {p : Plan} {f src dst : List ℤ} {k : ℕ} → src ≡ after k p f → dst ≡ pass fold (stageOf p) src → dst ≡ after (suc k) p f
-after-next {p} {f} {k = k} s d = d ∙ ap (pass fold (stageOf p)) s ∙ sym (results-cons half-sample (stageOf p) (replicate k (stageOf p)) f)
+pub after-next : (p : Plan) (f : List ℤ) (k : ℕ) {src dst : List ℤ} → src ≡ after k p f → dst ≡ pass fold (stageOf p) src → dst ≡ after (suc k) p f
+after-next p f k s d = d ∙ ap (pass fold (stageOf p)) s ∙ sym (results-cons half-sample (stageOf p) (replicate k (stageOf p)) f)
 
 module _ {p : Plan} {f : List ℤ} {nd no : ℕ} (h : Ready p f nd no) where
   room : {k : ℕ} → k < p .passes → h .bound * divisor (replicate k (stageOf p)) * tapSum (stageOf p) ≤ maxResult
-  room {k} l = ?
+  room {k} l =
+      let s = stageOf p in
+      let more : divisor (replicate (suc k) s) ≤ divisor (replicate (p .passes) s) = rw (← replicate-part s l) (divisor-part (replicate (suc k) s) (inner-replicate (p .passes - suc k) s (h .allowed .allowed .heavy))) in
+      rw (mul-assoc (h .bound) (divisor (replicate k s)) (tapSum s), mul-comm (divisor (replicate k s)) (tapSum s), ← divisor-cons s (replicate k s))
+      (le-trans (mul-le-mul-left (h .bound) more) (h .allowed .product))
 
   pub passable : {k : ℕ} {src : List ℤ} {n : ℕ} → k < p .passes → src ≡ after k p f → n ≡ nd → Passable p src n
   passable {k} {src} l e s =
@@ -74,6 +88,6 @@ module _ (p : Plan) (M : ℕ) (f r w : List ℤ) {a : Answer} (e : a ≡ firstOf
   unfolding smoothed
   call-refused h = rw (← e) (record { answer = refl; results = sym (ifDone-refused a _ r h); work = sym (ifDone-refused a _ w h) })
 
-  pub call-done : {res wrk : List ℤ} → a .number ≡ 0 → res ≡ after (p .passes) p f → wrk ≡ zeros w → Gives (smoothSeries fold (stagesOf p) M f r w) a res wrk
+  pub call-done : {res wrk : List ℤ} {n : ℕ} → a .number ≡ 0 → res ≡ after (p .passes) p f → wrk ≡ replicate n (pos 0) → n ≡ length w → Gives (smoothSeries fold (stagesOf p) M f r w) a res wrk
   unfolding smoothed
-  call-done z s t = rw (← e) (record { answer = refl; results = s ∙ sym (ifDone-done a _ r z); work = t ∙ sym (ifDone-done a _ w z) })
+  call-done z s t n = rw (← e) (record { answer = refl; results = s ∙ sym (ifDone-done a _ r z); work = t ∙ ap (λ k. replicate k (pos 0)) n ∙ sym (ifDone-done a _ w z) })

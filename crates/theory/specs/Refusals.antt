@@ -5,7 +5,7 @@
 -- Laws: first-on (the first row applies); done-off and off-done (the answer is 0 exactly where no row applies); off-append, append-off, refused-first, done-rest (rows in two parts);
 -- firstWhere-ext, firstWhere-none, firstWhere-is, firstWhere-before; none-next; rowAt-ext, rowAt-on, rowAt-off, rowAt-none;
 -- some-one, some-two, some-replicate; or-no, no-or; outside-no, no-outside, differs-no, no-differs, differs-self, above-no, no-above (a test that fails, and why it does);
--- ifDone-done, ifDone-refused; plan-numbered, size-numbered.
+-- ifDone-done, ifDone-refused; plan-numbered, common-numbered.
 use mathlib.Core.Path.{_≡_, refl, sym, _∙_, ap, ap₂}
 use mathlib.Core.Bool.{Bool, true, false, cond, not, _&&_, _||_, true≢false, or-false}
 use mathlib.Core.List.{List, [], _∷_, _++_}
@@ -18,7 +18,7 @@ use lib.IntN.{ℤ, natAbs}
 use borrow.Author.Tests.{ltb-true, ltb-false, le-ltb, lt-ltb, eqb-true, eq-eqb, ne-eqb}
 use Rattle.algebra.specs.Size.{Abs}
 use Rattle.meaning.specs.Kernel.{Stage}
-use Rattle.meaning.specs.Refusals.{Answer, Row, firstOf, _when_, firstWhere, rowAt, some, outside, differs, above, planRows, sizeRows, ifDone}
+use Rattle.meaning.specs.Refusals.{Answer, Row, firstOf, _when_, firstWhere, rowAt, some, outside, differs, above, Shape, planRows, sizeRows, commonRows, ifDone}
 
 abbrev pub done : Answer
 done = record { number = 0; position = 0 }
@@ -199,6 +199,6 @@ pub plan-numbered : (ps : List (List Stage)) → Numbered (planRows ps)
 unfolding planRows
 plan-numbered ps = tt
 
-pub size-numbered : (M product : ℕ) (badSize wrongLength : Bool) → Numbered (sizeRows M product badSize wrongLength)
-unfolding sizeRows
-size-numbered M product badSize wrongLength = tt
+pub common-numbered : (s : Shape) (M : ℕ) (wrongLength : Bool) → Numbered (commonRows s M wrongLength)
+unfolding planRows sizeRows
+common-numbered s M wrongLength = tt

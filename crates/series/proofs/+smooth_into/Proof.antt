@@ -1,132 +1,73 @@
-use Prim.Native.Nat.{ℕ, _<_}
+-- By induction on k: the pass before stands in the other slice.
+use Prim.Native.Nat.{ℕ, suc, _-_, _<_}
+use mathlib.Core.Path.{_≡_, ap, _∙_}
+use native.Mathlib.Omega.{arith}
+use borrow.Author.Needs.{needs}
 use borrow.Fn.Kinds.{In}
 use borrow.Fn.PlainCycle.{Measures, is, falls, and}
+use Rattle.series.specs.Ready.{after}
+use Rattle.series.specs.Steps.{swapped, passable, after-none, after-next}
 use Rattle.series.proofs.smooth_into.Reads as smooth-into
-use Rattle.series.proofs.smooth_into.Kinds as smooth-into-kinds
-use Rattle.series.proofs.+smooth_into.Lts-smooth_into as smooth-into-lts
-use Rattle.series.proofs.inner.load.Reads as load-reads
-use Rattle.series.proofs.inner.pass.Reads as pass-reads
+use Rattle.series.proofs.smooth_into.Kinds as kinds
+use Rattle.series.proofs.+smooth_into.Lts-smooth_into as lts
+use Rattle.series.proofs.inner.load.Reads as load
+use Rattle.series.proofs.inner.pass.Reads as pass
 use Rattle.series.proofs.+smooth_into.{statement}
 use Rattle.series.proofs.+smooth_into.Tie.{close}
 
-abbrev μ-smooth-into : Measures 3 smooth-into-kinds.ps ℕ
-μ-smooth-into κs a = ?
+abbrev μ : Measures 3 kinds.ps ℕ
+μ κs a = a .1 .0
 
-abbrev smooth-into-at : ℕ → In 3 smooth-into-kinds.ps
-smooth-into-at t =
-    and 3 smooth-into-kinds.ps (is 3 smooth-into-kinds.ps μ-smooth-into t) smooth-into.Pre
+abbrev at : ℕ → In 3 kinds.ps
+at t = and 3 kinds.ps (is 3 kinds.ps μ t) smooth-into.Pre
 
-abbrev smooth-into-below : ℕ → In 3 smooth-into-kinds.ps
-smooth-into-below t =
-    and 3 smooth-into-kinds.ps (falls 3 smooth-into-kinds.ps _<_ μ-smooth-into t) smooth-into.Pre
+abbrev below : ℕ → In 3 kinds.ps
+below t = and 3 kinds.ps (falls 3 kinds.ps _<_ μ t) smooth-into.Pre
 
-smooth-into-load-requires : (t : ℕ) → smooth-into-lts.Need-load-requires (
-  load-reads.Asked,
-  load-reads.Learnt,
-  smooth-into-below t,
-  smooth-into.Post,
-  pass-reads.Asked,
-  pass-reads.Learnt,
-) (smooth-into-at t) smooth-into.Post
-smooth-into-load-requires t c κs = ?
+load-requires : (t : ℕ) → lts.Need-load-requires (load.Asked, load.Learnt, below t, smooth-into.Post, pass.Asked, pass.Learnt) (at t) smooth-into.Post
+load-requires t c κs = c .before .before .pre .1 .1 .allowed .results
 
-smooth-into-same-length : (t : ℕ) → smooth-into-lts.Need-same-length (
-  load-reads.Asked,
-  load-reads.Learnt,
-  smooth-into-below t,
-  smooth-into.Post,
-  pass-reads.Asked,
-  pass-reads.Learnt,
-) (smooth-into-at t) smooth-into.Post
-smooth-into-same-length t c = ?
+same-length : (t : ℕ) → lts.Need-same-length (load.Asked, load.Learnt, below t, smooth-into.Post, pass.Asked, pass.Learnt) (at t) smooth-into.Post
+same-length t c = search needs
 
-smooth-into-returns : (t : ℕ) → smooth-into-lts.Need-returns (
-  load-reads.Asked,
-  load-reads.Learnt,
-  smooth-into-below t,
-  smooth-into.Post,
-  pass-reads.Asked,
-  pass-reads.Learnt,
-) (smooth-into-at t) smooth-into.Post
-smooth-into-returns t c = ?
+returns : (t : ℕ) → lts.Need-returns (load.Asked, load.Learnt, below t, smooth-into.Post, pass.Asked, pass.Learnt) (at t) smooth-into.Post
+returns t c =
+    let a = c .before .before .before .before in
+    rw (c .before .before .before .if1 .taken) (after-none (a .args .plan) _ (c .before .load .ensures))
 
-smooth-into-sub-smooth-into : (t : ℕ) → smooth-into-lts.Need-sub-smooth-into (
-  load-reads.Asked,
-  load-reads.Learnt,
-  smooth-into-below t,
-  smooth-into.Post,
-  pass-reads.Asked,
-  pass-reads.Learnt,
-) (smooth-into-at t) smooth-into.Post
-smooth-into-sub-smooth-into t c = ?
+sub-smooth-into : (t : ℕ) → lts.Need-sub-smooth-into (load.Asked, load.Learnt, below t, smooth-into.Post, pass.Asked, pass.Learnt) (at t) smooth-into.Post
+sub-smooth-into t c = search needs
 
-smooth-into-smooth-into-requires : (t : ℕ) → smooth-into-lts.Need-smooth-into-requires (
-  load-reads.Asked,
-  load-reads.Learnt,
-  smooth-into-below t,
-  smooth-into.Post,
-  pass-reads.Asked,
-  pass-reads.Learnt,
-) (smooth-into-at t) smooth-into.Post
-smooth-into-smooth-into-requires t c κs = ?
+smooth-into-requires : (t : ℕ) → lts.Need-smooth-into-requires (load.Asked, load.Learnt, below t, smooth-into.Post, pass.Asked, pass.Learnt) (at t) smooth-into.Post
+smooth-into-requires t c κs = (omega arith, (omega arith, swapped (c .before .before .before .pre .1 .1)))
 
-smooth-into-pass-requires : (t : ℕ) → smooth-into-lts.Need-pass-requires (
-  load-reads.Asked,
-  load-reads.Learnt,
-  smooth-into-below t,
-  smooth-into.Post,
-  pass-reads.Asked,
-  pass-reads.Learnt,
-) (smooth-into-at t) smooth-into.Post
-smooth-into-pass-requires t c κs = ?
+pass-requires : (t : ℕ) → lts.Need-pass-requires (load.Asked, load.Learnt, below t, smooth-into.Post, pass.Asked, pass.Learnt) (at t) smooth-into.Post
+pass-requires t c κs =
+    let a = c .before .before .before .before .before .before .before .before in
+    passable (a .pre .1 .1) {k = a .args .k - 1} (omega arith) (c .before .before .before .before .smooth-into .ensures) (omega arith)
 
-smooth-into-same-length-2 : (t : ℕ) → smooth-into-lts.Need-same-length-2 (
-  load-reads.Asked,
-  load-reads.Learnt,
-  smooth-into-below t,
-  smooth-into.Post,
-  pass-reads.Asked,
-  pass-reads.Learnt,
-) (smooth-into-at t) smooth-into.Post
-smooth-into-same-length-2 t c = ?
+same-length-2 : (t : ℕ) → lts.Need-same-length-2 (load.Asked, load.Learnt, below t, smooth-into.Post, pass.Asked, pass.Learnt) (at t) smooth-into.Post
+same-length-2 t c = search needs
 
-smooth-into-same-length-3 : (t : ℕ) → smooth-into-lts.Need-same-length-3 (
-  load-reads.Asked,
-  load-reads.Learnt,
-  smooth-into-below t,
-  smooth-into.Post,
-  pass-reads.Asked,
-  pass-reads.Learnt,
-) (smooth-into-at t) smooth-into.Post
-smooth-into-same-length-3 t c = ?
+same-length-3 : (t : ℕ) → lts.Need-same-length-3 (load.Asked, load.Learnt, below t, smooth-into.Post, pass.Asked, pass.Learnt) (at t) smooth-into.Post
+same-length-3 t c = search needs
 
-smooth-into-returns-2 : (t : ℕ) → smooth-into-lts.Need-returns-2 (
-  load-reads.Asked,
-  load-reads.Learnt,
-  smooth-into-below t,
-  smooth-into.Post,
-  pass-reads.Asked,
-  pass-reads.Learnt,
-) (smooth-into-at t) smooth-into.Post
-smooth-into-returns-2 t c = ?
+returns-2 : (t : ℕ) → lts.Need-returns-2 (load.Asked, load.Learnt, below t, smooth-into.Post, pass.Asked, pass.Learnt) (at t) smooth-into.Post
+returns-2 t c =
+    let a = c .before .before .before .before .before .before .before .before .before .before .args in
+    let one : suc (a .k - 1) ≡ a .k = omega arith in
+    after-next (a .plan) (a .samples .now) (a .k - 1) (c .before .before .before .before .before .before .smooth-into .ensures) (c .before .pass .ensures) ∙ ap (λ k. after k (a .plan) (a .samples .now)) one
 
 pub +smooth-into-spec : {M : Type 1} → statement M
-+smooth-into-spec = close μ-smooth-into λ t. smooth-into-lts.spec (
-  load-reads.Asked,
-  load-reads.Learnt,
-  smooth-into-below t,
-  smooth-into.Post,
-  pass-reads.Asked,
-  pass-reads.Learnt,
-)
-    (smooth-into-at t)
++smooth-into-spec = close μ λ t. lts.spec (load.Asked, load.Learnt, below t, smooth-into.Post, pass.Asked, pass.Learnt)
+    (at t)
     smooth-into.Post
-    (smooth-into-load-requires t)
-    (smooth-into-same-length t)
-    (smooth-into-returns t)
-    (smooth-into-sub-smooth-into t)
-    (smooth-into-smooth-into-requires t)
-    (smooth-into-pass-requires t)
-    (smooth-into-same-length-2 t)
-    (smooth-into-same-length-3 t)
-    (smooth-into-returns-2 t)
+    (load-requires t)
+    (same-length t)
+    (returns t)
+    (sub-smooth-into t)
+    (smooth-into-requires t)
+    (pass-requires t)
+    (same-length-2 t)
+    (same-length-3 t)
+    (returns-2 t)

@@ -1,4 +1,6 @@
 use borrow.Author.Needs.{needs}
+use Rattle.plan.specs.Told.{stagesOf}
+use Rattle.series.specs.Steps.{test-refused, test-rest}
 use Rattle.series.proofs.refusal.Statement.{statement}
 use Rattle.series.proofs.refusal.Tie as tie
 use Rattle.series.proofs.refusal.Reads as reads
@@ -14,13 +16,17 @@ series-refusal-requires : tie.Need-series-refusal-requires
 series-refusal-requires c κs = search needs
 
 returns : tie.Need-returns
-returns c = ?
+returns c =
+    let a = c .before .before .before .args in
+    test-refused (stagesOf (a .plan)) (a .bound) (a .samples .now) (a .results) (a .work) (c .before .series-refusal .ensures) (c .before .before .lengths-differ .ensures) (c .if1 .taken)
 
 sample-refusal-requires : tie.Need-sample-refusal-requires
 sample-refusal-requires c κs = search needs
 
 returns-2 : tie.Need-returns-2
-returns-2 c = ?
+returns-2 c =
+    let a = c .before .before .before .before .args in
+    test-rest (stagesOf (a .plan)) (a .bound) (a .samples .now) (a .results) (a .work) (c .before .before .series-refusal .ensures) (c .before .before .before .lengths-differ .ensures) (c .before .if1 .left) (c .sample-refusal .ensures)
 
 pub refusal-spec : {M : Type 1} → statement M
 refusal-spec =
