@@ -1,51 +1,46 @@
--- What the tests of rows 1 to 4 say of a plan, and of its own divisor and reach.
--- Laws: plan-passed; divisor-refused, divisor-large, divisor-done; reach-refused, reach-done.
+-- What the test of rows 1 to 4 says of a plan, and the plan's own divisor and reach after it.
+-- Laws: plan-passed, plan-failed; divisor-failed, divisor-large, divisor-done; reach-failed, reach-done.
 use Prim.Native.Nat.{ℕ, _*_, _≤_, _<_}
 use mathlib.Core.Path.{_≡_, refl, sym, _∙_, ap}
 use mathlib.Core.List.{[], _∷_}
 use native.Mathlib.Nat.{one-mul}
 use native.Mathlib.Omega.{arith}
-use lib.Dec.{ltb}
-use borrow.Author.Tests.{lt-ltb, le-ltb}
 use Rattle.meaning.specs.Limits.{maxResult}
-use Rattle.meaning.specs.Kernel.{tapReach, divisor, reach}
-use Rattle.meaning.specs.Refusals.{Answer, _when_, firstOf, planRows, planDivisor, planReach}
-use Rattle.theory.specs.Refusals.{done, first-on, refused-first, done-rest, off-done, plan-numbered, ifDone-done, ifDone-refused}
-use Rattle.theory.specs.Accepted.{plan-allowed, allowed-plan}
+use Rattle.meaning.specs.Kernel.{tapReach, divisor}
+use Rattle.meaning.specs.Refusals.{Answer, firstOf, planRows, planDivisor, planReach}
 use Rattle.theory.specs.Stages.{reach-replicate}
+use Rattle.theory.specs.Accepted.{plan-allowed, allowed-plan, planDivisor-refused, planDivisor-large, planDivisor-done, planReach-refused, planReach-done}
 use Rattle.plan.specs.declared.Plan.{Plan}
 use Rattle.plan.specs.Told.{stageOf, stagesOf, AllowedPlan, plain}
 use Rattle.plan.specs.Capped.{capped, capped-below}
 
 module _ (p : Plan) where
-  pub plan-passed : {n : ℕ} → plain n ≡ firstOf (planRows (stagesOf p ∷ [])) → n ≡ 0 → AllowedPlan p
-  plan-passed e z = plan-allowed (p .radius) (p .inner) (p .edge) (p .passes) (sym (ap (λ (a : Answer). a .number) e) ∙ z)
+  module _ {n : ℕ} (e : plain n ≡ firstOf (planRows (stagesOf p ∷ []))) where
+    number : n ≡ firstOf (planRows (stagesOf p ∷ [])) .number
+    number = ap (λ (a : Answer). a .number) e
 
-  pub divisor-refused : {n : ℕ} → plain n ≡ firstOf (planRows (stagesOf p ∷ [])) → (n ≡ 0 → ⊥) → 0 ≡ planDivisor (stagesOf p)
-  unfolding planDivisor
-  divisor-refused e h = sym (rw (← refused-first _ _ e h) (ifDone-refused _ _ _ h))
+    pub plan-passed : n ≡ 0 → AllowedPlan p
+    plan-passed z = plan-allowed (p .radius) (p .inner) (p .edge) (p .passes) (sym number ∙ z)
 
-  module _ (ok : AllowedPlan p) (x : ℕ) (e : capped x ≡ capped (1 * divisor (stagesOf p))) where
-    same : capped x ≡ capped (divisor (stagesOf p))
-    same = e ∙ ap capped (one-mul (divisor (stagesOf p)))
+    plan-failed : (n ≡ 0 → ⊥) → AllowedPlan p → ⊥
+    plan-failed h ok = h (number ∙ ap (λ (a : Answer). a .number) (allowed-plan _ _ _ _ ok))
 
-    pub divisor-large : maxResult < x → 0 ≡ planDivisor (stagesOf p)
-    unfolding planDivisor
-    divisor-large l =
-        let six = first-on (6 when ltb maxResult (divisor (stagesOf p))) [] (lt-ltb maxResult (divisor (stagesOf p)) (omega (arith, same))) in
-        sym (rw (← done-rest _ _ (plan-numbered _) (sym (allowed-plan _ _ _ _ ok)) refl (sym six)) (ifDone-refused (plain 6) _ _ (λ e. omega arith)))
+    pub divisor-failed : (n ≡ 0 → ⊥) → 0 ≡ planDivisor (stagesOf p)
+    divisor-failed h = sym (planDivisor-refused _ _ _ _ (plan-failed h))
 
-    pub divisor-done : x ≤ maxResult → x ≡ planDivisor (stagesOf p)
-    unfolding planDivisor
-    divisor-done l =
-        let is = capped-below x (divisor (stagesOf p)) same l in
-        let none = off-done ((6 when ltb maxResult (divisor (stagesOf p))) ∷ []) (le-ltb maxResult (divisor (stagesOf p)) (rw (← is) l), tt) in
-        is ∙ sym (rw (← done-rest _ _ (plan-numbered _) (sym (allowed-plan _ _ _ _ ok)) refl (sym none)) (ifDone-done done _ _ refl))
+    pub reach-failed : (n ≡ 0 → ⊥) → 0 ≡ planReach (stagesOf p)
+    reach-failed h = sym (planReach-refused _ _ _ _ (plan-failed h))
 
-  pub reach-refused : {n : ℕ} → plain n ≡ firstOf (planRows (stagesOf p ∷ [])) → (n ≡ 0 → ⊥) → 0 ≡ planReach (stagesOf p)
-  unfolding planReach
-  reach-refused e h = sym (rw (← e) (ifDone-refused _ _ _ h))
+  module _ (ok : AllowedPlan p) where
+    pub reach-done : p .passes * tapReach (stageOf p) ≡ planReach (stagesOf p)
+    reach-done = sym (planReach-done _ _ _ _ ok ∙ reach-replicate (p .passes) (stageOf p))
 
-  pub reach-done : AllowedPlan p → p .passes * tapReach (stageOf p) ≡ planReach (stagesOf p)
-  unfolding planReach
-  reach-done ok = sym (rw (allowed-plan _ _ _ _ ok) (ifDone-done done _ _ refl) ∙ reach-replicate (p .passes) (stageOf p))
+    module _ (x : ℕ) (e : capped x ≡ capped (1 * divisor (stagesOf p))) where
+      one : capped x ≡ capped (divisor (stagesOf p))
+      one = e ∙ ap capped (one-mul (divisor (stagesOf p)))
+
+      pub divisor-large : maxResult < x → 0 ≡ planDivisor (stagesOf p)
+      divisor-large l = sym (planDivisor-large _ _ _ _ ok (omega (arith, one)))
+
+      pub divisor-done : x ≤ maxResult → x ≡ planDivisor (stagesOf p)
+      divisor-done l = let is = capped-below x (divisor (stagesOf p)) one l in is ∙ sym (planDivisor-done _ _ _ _ ok (rw (← is) l))

@@ -1,5 +1,6 @@
 -- The rows of the table of numbers say the bounds: a call is done exactly where they hold.
--- Laws: plan-rows (rows 1 to 4 of K equal stages, by the plan's numbers), plan-allowed, allowed-plan; series-allowed, allowed-series.
+-- Laws: plan-rows (rows 1 to 4 of K equal stages, by the plan's numbers), plan-allowed, allowed-plan; series-allowed, allowed-series;
+-- planDivisor-done, planDivisor-large, planDivisor-refused; planReach-done, planReach-refused (a plan's own numbers, and 0 where there are none).
 use mathlib.Core.Path.{_≡_, refl, sym, _∙_, ap}
 use mathlib.Core.Bool.{Bool, true, _||_}
 use mathlib.Core.List.{List, [], _∷_, _++_}
@@ -8,14 +9,14 @@ use native.Mathlib.Omega.{arith}
 use lib.Dec.{leb, ltb}
 use lib.ListN.{length, replicate, length-replicate}
 use lib.IntN.{ℤ}
-use borrow.Author.Tests.{ltb-false, leb-false, le-ltb, lt-leb}
+use borrow.Author.Tests.{ltb-false, leb-false, le-ltb, lt-ltb, lt-leb}
 use Rattle.meaning.specs.Limits.{least, maxPasses, maxRadius, maxInner, maxLength, maxResult}
 use Rattle.meaning.specs.Extension.{at}
-use Rattle.meaning.specs.Kernel.{Stage, plan, divisor}
-use Rattle.meaning.specs.Refusals.{Answer, Row, _when_, firstOf, rowAt, some, outside, differs, above, seriesOf, planRows, sizeRows, commonRows}
+use Rattle.meaning.specs.Kernel.{Stage, plan, reach, divisor}
+use Rattle.meaning.specs.Refusals.{Answer, Row, _when_, firstOf, rowAt, some, outside, differs, above, seriesOf, planRows, sizeRows, commonRows, planDivisor, planReach}
 use Rattle.meaning.specs.Calls.{sampleRow, smoothRows}
 use Rattle.meaning.specs.Bounds.{AllowedPlan, AllowedSeries}
-use Rattle.theory.specs.Refusals.{done, Off, Numbered, done-off, off-done, off-append, append-off, rowAt-off, rowAt-none, some-one, some-replicate, or-no, no-or, outside-no, no-outside, differs-no, no-differs, plan-numbered}
+use Rattle.theory.specs.Refusals.{done, Off, Numbered, first-on, done-off, off-done, refused-first, done-rest, off-append, append-off, rowAt-off, rowAt-none, some-one, some-replicate, or-no, no-or, outside-no, no-outside, differs-no, no-differs, plan-numbered, ifDone-done, ifDone-refused}
 
 some-stage : (t : Stage → Bool) (K : ℕ) (s : Stage) → some (some t) (replicate (suc K) s ∷ []) ≡ t s
 some-stage t K s = some-one (some t) (replicate (suc K) s) ∙ some-replicate t (suc K) s (omega arith)
@@ -91,3 +92,34 @@ module _ (r b a : ℕ) where
           let size : Off shared = (no-outside (ok .bound .0) (ok .bound .1), (le-ltb _ _ (ok .product), (no-outside (ok .count .0) (ok .count .1), (lengths, tt)))) in
           let samples : Off (sampleRow M f (λ i. true) ∷ []) = (rowAt-off 11 (length f) (λ i l. le-ltb _ _ (ok .samples i l)), tt) in
           off-done rows (off-append (planRows (plan r b a K ∷ []) ++ shared) _ (off-append (planRows (plan r b a K ∷ [])) shared plans size) samples)
+
+    -- ---- a plan's own numbers
+    refused : (AllowedPlan r b a K → ⊥) → firstOf (planRows (plan r b a K ∷ [])) .number ≡ 0 → ⊥
+    refused h e = h (plan-allowed e)
+
+    pub planDivisor-refused : (AllowedPlan r b a K → ⊥) → planDivisor (plan r b a K) ≡ 0
+    unfolding planDivisor
+    planDivisor-refused h = rw (← refused-first (planRows (plan r b a K ∷ [])) ((6 when ltb maxResult (divisor (plan r b a K))) ∷ []) refl (refused h)) (ifDone-refused _ _ _ (refused h))
+
+    pub planReach-refused : (AllowedPlan r b a K → ⊥) → planReach (plan r b a K) ≡ 0
+    unfolding planReach
+    planReach-refused h = ifDone-refused _ _ _ (refused h)
+
+    module _ (ok : AllowedPlan r b a K) where
+      abbrev six : List Row
+      six = (6 when ltb maxResult (divisor (plan r b a K))) ∷ []
+
+      then-six : {x : Answer} → x ≡ firstOf six → x ≡ firstOf (planRows (plan r b a K ∷ []) ++ six)
+      then-six e = done-rest _ _ (plan-numbered _) (sym (allowed-plan ok)) refl e
+
+      pub planDivisor-large : maxResult < divisor (plan r b a K) → planDivisor (plan r b a K) ≡ 0
+      unfolding planDivisor
+      planDivisor-large l = rw (← then-six (sym (first-on _ [] (lt-ltb maxResult (divisor (plan r b a K)) l)))) (ifDone-refused _ _ _ (λ e. omega arith))
+
+      pub planDivisor-done : divisor (plan r b a K) ≤ maxResult → planDivisor (plan r b a K) ≡ divisor (plan r b a K)
+      unfolding planDivisor
+      planDivisor-done l = rw (← then-six (sym (off-done six (le-ltb maxResult (divisor (plan r b a K)) l, tt)))) (ifDone-done _ _ _ refl)
+
+      pub planReach-done : planReach (plan r b a K) ≡ reach (plan r b a K)
+      unfolding planReach
+      planReach-done = rw (allowed-plan ok) (ifDone-done _ _ _ refl)

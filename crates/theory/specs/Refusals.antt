@@ -1,8 +1,10 @@
 -- The table of numbers: which row answers, and what an answer of 0 says.
 --   Numbered rows   no row answers 0; of rows that are written down, tt
 --   Off rows        no row applies
+--   Rising rows     the numbers rise from row to row; of rows that are written down, tt
+--   Applies n rows  a row with number n applies
 --   done            the answer 0 with position 0
--- Laws: first-on (the first row applies); done-off and off-done (the answer is 0 exactly where no row applies); off-append, append-off, refused-first, done-rest (rows in two parts);
+-- Laws: first-applies, first-lowest (the answer is that of a row that applies, and of the lowest); first-on (the first row applies); done-off and off-done (the answer is 0 exactly where no row applies); off-append, append-off, refused-first, done-rest (rows in two parts);
 -- firstWhere-ext, firstWhere-none, firstWhere-is, firstWhere-before; none-next; rowAt-ext, rowAt-on, rowAt-off, rowAt-none;
 -- some-one, some-two, some-replicate; or-no, no-or; outside-no, no-outside, differs-no, no-differs, differs-self, above-no, no-above (a test that fails, and why it does);
 -- ifDone-done, ifDone-refused; plan-numbered, common-numbered.
@@ -35,11 +37,11 @@ Off [] = Unit {0}
 Off (row ∷ rows) = (row .applies ≡ false) × Off rows
 
 -- ---- which row answers
-above-zero : (n : ℕ) (b : Bool) → T (ltb 0 n && b) → (0 < n) × T b
-above-zero n b t = go (ltb 0 n) refl t
+split-lt : (m n : ℕ) (b : Bool) → T (ltb m n && b) → (m < n) × T b
+split-lt m n b t = go (ltb m n) refl t
   where
-    go : (s : Bool) → ltb 0 n ≡ s → T (s && b) → (0 < n) × T b
-    go true e t = (ltb-true 0 n e, t)
+    go : (s : Bool) → ltb m n ≡ s → T (s && b) → (m < n) × T b
+    go true e t = (ltb-true m n e, t)
     go false e t = absurd t
 
 pub first-on : (row : Row) (rows : List Row) → row .applies ≡ true → firstOf (row ∷ rows) ≡ row .answer
@@ -55,12 +57,47 @@ pub done-off : (rows : List Row) → Numbered rows → firstOf rows .number ≡ 
 unfolding firstOf
 done-off [] t e = tt
 done-off (row ∷ rows) t e =
-    let (l, u) = above-zero (row .answer .number) (numbered rows) t in
+    let (l, u) = split-lt 0 (row .answer .number) (numbered rows) t in
     go (row .applies) refl l (done-off rows u) e
   where
     go : (b : Bool) → row .applies ≡ b → 0 < row .answer .number → (firstOf rows .number ≡ 0 → Off rows) → cond b (row .answer) (firstOf rows) .number ≡ 0 → (row .applies ≡ false) × Off rows
     go true h l k e = let no : ⊥ = omega arith in absurd no
     go false h l k e = (h, k e)
+
+-- ---- the lowest number that applies
+abbrev risesFrom : ℕ → List Row → Bool
+risesFrom n [] = true
+risesFrom n (row ∷ rows) = ltb n (row .answer .number) && risesFrom (row .answer .number) rows
+
+abbrev pub Rising : List Row → Type 0
+Rising rows = T (risesFrom 0 rows)
+
+pub data Applies (n : ℕ) : List Row → Type 0 where
+  here : {row : Row} {rows : List Row} → row .answer .number ≡ n → row .applies ≡ true → Applies n (row ∷ rows)
+  later : {row : Row} {rows : List Row} → Applies n rows → Applies n (row ∷ rows)
+
+pub first-applies : (rows : List Row) → (firstOf rows .number ≡ 0 → ⊥) → Applies (firstOf rows .number) rows
+unfolding firstOf
+first-applies [] h = absurd (h refl)
+first-applies (row ∷ rows) h = go (row .applies) refl (first-applies rows) h
+  where
+    go : (b : Bool) → row .applies ≡ b → ((firstOf rows .number ≡ 0 → ⊥) → Applies (firstOf rows .number) rows) → (cond b (row .answer) (firstOf rows) .number ≡ 0 → ⊥) → Applies (cond b (row .answer) (firstOf rows) .number) (row ∷ rows)
+    go true e k h = here refl e
+    go false e k h = later (k h)
+
+lowest-from : (m : ℕ) (rows : List Row) {n : ℕ} → T (risesFrom m rows) → Applies n rows → (firstOf rows .number ≤ n) × (m < n)
+unfolding firstOf
+lowest-from m (row ∷ rows) t (here e h) = rw (h) (omega (arith, split-lt m (row .answer .number) (risesFrom (row .answer .number) rows) t .0))
+lowest-from m (row ∷ rows) {n} t (later k) =
+    let (l, u) = split-lt m (row .answer .number) (risesFrom (row .answer .number) rows) t in
+    go (row .applies) l (lowest-from (row .answer .number) rows u k)
+  where
+    go : (b : Bool) → m < row .answer .number → (firstOf rows .number ≤ n) × (row .answer .number < n) → (cond b (row .answer) (firstOf rows) .number ≤ n) × (m < n)
+    go true l r = omega arith
+    go false l r = omega arith
+
+pub first-lowest : (rows : List Row) {n : ℕ} → Rising rows → Applies n rows → firstOf rows .number ≤ n
+first-lowest rows t k = lowest-from 0 rows t k .0
 
 -- ---- rows in two parts
 pub off-append : (rows more : List Row) → Off rows → Off more → Off (rows ++ more)

@@ -6,7 +6,7 @@ use Rattle.meaning.specs.Kernel.{tapReach}
 use Rattle.theory.specs.Kernel.{tapReach-width}
 use Rattle.plan.specs.declared.Plan.{Plan}
 use Rattle.plan.specs.Told.{stageOf, AllowedPlan}
-use Rattle.plan.specs.Own.{plan-passed, reach-refused, reach-done}
+use Rattle.plan.specs.Own.{plan-passed, reach-failed, reach-done}
 use Rattle.plan.proofs.Plan.reach.Statement.{statement}
 use Rattle.plan.proofs.Plan.reach.Tie as tie
 use Rattle.plan.proofs.Plan.reach.Reads as reads
@@ -18,7 +18,7 @@ plan-refusal-requires : tie.Need-plan-refusal-requires
 plan-refusal-requires c κs = search needs
 
 returns : tie.Need-returns
-returns c = reach-refused (c .before .before .args .self) (c .before .plan-refusal .ensures) (c .if1 .taken)
+returns c = reach-failed (c .before .before .args .self) (c .before .plan-refusal .ensures) (c .if1 .taken)
 
 -- far below 2^64
 within : (p : Plan) → AllowedPlan p → p .passes * tapReach (stageOf p) ≤ 8 * 1024

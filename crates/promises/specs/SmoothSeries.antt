@@ -1,0 +1,119 @@
+-- Smoothing a series. Every theorem is of `series::smooth_series` by its own contract, for all inputs: that it ends is the language's.
+--   lowest-number      demand 1: the number is 0, or that of a row that applies, and then the lowest of those
+--   refused-unchanged  demand 1: a refused call leaves every cell as it was
+--   done-allowed, allowed-done   the number is 0 exactly where the bounds of document 01 hold
+--   done-results       demand 2: the results of a call that is done are the convolution of the extension with the K-fold kernel
+--   done-left          such a call answers position 0 and leaves zeros in work
+--   kernel-over        the K-fold kernel's sum is D^K, with D = (2r+1)b + 2a
+--   one-outcome        two outcomes that the contract allows are the same
+use Prim.Native.Nat.{ℕ, _+_, _*_, _^_, _≤_, _<_}
+use mathlib.Core.Path.{_≡_, refl, sym, ap, _∙_}
+use mathlib.Core.List.{List}
+use lib.ListN.{length}
+use lib.IntN.{ℤ, pos, _-ℤ_, _*ℤ_}
+use contract.Lifetimes.{Lfts}
+use denote.Ref.{now}
+use denote.Triple.Clauses.{AtExit}
+use borrow.Fn.Kinds.{Dens, resT, endedOf}
+use Rattle.algebra.specs.Within.{sumWithin}
+use Rattle.meaning.specs.Extension.{at, fold, ext}
+use Rattle.meaning.specs.Kernel.{kernel, width, divisor}
+use Rattle.meaning.specs.Smoothing.{convolved, result, results}
+use Rattle.meaning.specs.Refusals as meant
+use Rattle.meaning.specs.Refusals.{Row, firstOf, rowAt, planRows, sizeRows, seriesOf, zeros}
+use Rattle.meaning.specs.Calls.{smoothRows, smoothed}
+use Rattle.meaning.specs.Bounds.{AllowedSeries}
+use Rattle.theory.specs.Convolution.{kernel-sum}
+use Rattle.theory.specs.Stages.{divisor-plan}
+use Rattle.theory.specs.Passes.{length-results, at-results}
+use Rattle.theory.specs.Refusals.{done, Rising, Applies, first-applies, first-lowest, ifDone-done, ifDone-refused}
+use Rattle.theory.specs.Accepted.{series-allowed, allowed-series}
+use Rattle.plan.specs.declared.Plan.{Plan}
+use Rattle.plan.specs.declared.Answer.{Answer}
+use Rattle.plan.specs.Told.{stagesOf, answerOf}
+use Rattle.series.proofs.smooth_series.Reads as smooth-series
+use Rattle.series.proofs.smooth_series.Kinds as kinds
+
+-- a call: what it was given, what it answered, what it left
+pub record Call : Type 0 where
+  pub plan : Plan
+  pub bound : ℕ
+  pub samples : List ℤ
+  pub results : List ℤ
+  pub work : List ℤ
+  pub answer : Answer
+  pub resultsLeft : List ℤ
+  pub workLeft : List ℤ
+
+abbrev pub rows : Call → List Row
+rows c = smoothRows (seriesOf (stagesOf (c .plan)) (length (c .samples))) (c .bound) (c .samples) (length (c .results)) (length (c .work))
+
+abbrev pub Allowed : Call → Type 0
+Allowed c = AllowedSeries (c .plan .radius) (c .plan .inner) (c .plan .edge) (c .plan .passes) (c .bound) (c .samples) (length (c .results)) (length (c .work))
+
+rising : (c : Call) → Rising (rows c)
+unfolding smoothRows planRows sizeRows rowAt
+rising c = tt
+
+-- any call of the function, as its contract lets it end
+module _ (κs : Lfts 3) (a : Dens κs kinds.ps) (r : resT kinds.r κs .Denot) (s : AtExit (endedOf 3 kinds.ps kinds.r) κs) where
+  abbrev pub call : Call
+  call = record {
+    plan = a .0;
+    bound = a .1 .0;
+    samples = now (a .1 .1 .0);
+    results = now (a .1 .1 .1 .0);
+    work = now (a .1 .1 .1 .1 .0);
+    answer = r;
+    resultsLeft = now (s .1 .1 .1 .0);
+    workLeft = now (s .1 .1 .1 .1 .0);
+  }
+
+  module _ (h : smooth-series.Learnt κs a r s) where
+    abbrev number : ℕ
+    number = call .answer .number
+
+    answer-is : answerOf (call .answer) ≡ firstOf (rows call)
+    unfolding smoothed
+    answer-is = h .answer
+
+    number-is : number ≡ firstOf (rows call) .number
+    number-is = ap (λ (x : meant.Answer). x .number) answer-is
+
+    pub lowest-number : ((number ≡ 0 → ⊥) → Applies number (rows call)) × ((n : ℕ) → Applies n (rows call) → number ≤ n)
+    lowest-number = rw number-is (first-applies (rows call), λ n k. first-lowest (rows call) (rising call) k)
+
+    pub refused-unchanged : (number ≡ 0 → ⊥) → (call .resultsLeft ≡ call .results) × (call .workLeft ≡ call .work)
+    unfolding smoothed
+    refused-unchanged n =
+        let refused : firstOf (rows call) .number ≡ 0 → ⊥ = λ e. n (number-is ∙ e) in
+        (h .results ∙ ifDone-refused _ _ _ refused, h .work ∙ ifDone-refused _ _ _ refused)
+
+    pub done-allowed : number ≡ 0 → Allowed call
+    done-allowed e = series-allowed _ _ _ _ _ _ _ _ (sym number-is ∙ e)
+
+    pub allowed-done : Allowed call → number ≡ 0
+    allowed-done ok = number-is ∙ ap (λ (x : meant.Answer). x .number) (allowed-series _ _ _ _ _ _ _ _ ok)
+
+    module _ (e : number ≡ 0) where
+      whole : call .resultsLeft ≡ results fold (stagesOf (call .plan)) (call .samples)
+      unfolding smoothed
+      whole = h .results ∙ ifDone-done _ _ _ (sym number-is ∙ e)
+
+      pub done-results : (length (call .resultsLeft) ≡ length (call .samples)) × ((n : ℕ) → n < length (call .samples)
+          → at (call .resultsLeft) n ≡ sumWithin (width (stagesOf (call .plan))) (λ m. kernel (stagesOf (call .plan)) m *ℤ ext fold (call .samples) (pos n -ℤ m)))
+      unfolding convolved result
+      done-results = rw whole (length-results fold (stagesOf (call .plan)) (call .samples), λ n l. at-results fold (stagesOf (call .plan)) (call .samples) n l)
+
+      pub done-left : (call .answer .position ≡ 0) × (call .workLeft ≡ zeros (call .work))
+      unfolding smoothed
+      done-left = (ap (λ (x : meant.Answer). x .position) (answer-is ∙ allowed-series _ _ _ _ _ _ _ _ (done-allowed e)), h .work ∙ ifDone-done _ _ _ (sym number-is ∙ e))
+
+pub kernel-over : (p : Plan) → sumWithin (width (stagesOf p)) (kernel (stagesOf p)) ≡ pos (((2 * p .radius + 1) * p .inner + 2 * p .edge) ^ p .passes)
+kernel-over p = kernel-sum (stagesOf p) ∙ ap pos (divisor-plan (p .radius) (p .inner) (p .edge) (p .passes))
+
+pub one-outcome : (κs : Lfts 3) (a : Dens κs kinds.ps) (r r′ : resT kinds.r κs .Denot) (s s′ : AtExit (endedOf 3 kinds.ps kinds.r) κs) → smooth-series.Learnt κs a r s → smooth-series.Learnt κs a r′ s′ → call κs a r s ≡ call κs a r′ s′
+one-outcome κs a r r′ s s′ g h = rw (ap back (g .answer ∙ sym (h .answer)), g .results ∙ sym (h .results), g .work ∙ sym (h .work))
+  where
+    back : meant.Answer → Answer
+    back x = record { number = x .number; position = x .position }

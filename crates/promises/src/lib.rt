@@ -1,0 +1,1 @@
+// Theorems over the calls' own contracts: all in specs/.
