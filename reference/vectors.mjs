@@ -16,7 +16,7 @@ const DRIVER = new URL('../crates/calls/', import.meta.url);
 const GOOD = callWords(1, { plan: ONE, bound: 9, samples: [1], results: [2], work: [3] });
 const TOO_LONG = [...GOOD.slice(0, 6), 131_073n, ...GOOD];
 
-// The input of the driver for the stored cases of these calls, and its lines.
+// The driver's input and lines: the stored cases of these calls, and then the end.
 function streamOf(calls) {
   const cases = calls.flatMap((call) => storedCases(call));
   const lines = [...cases.map(({ line }) => line), ...linesFor(TOO_LONG)];
