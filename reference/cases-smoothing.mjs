@@ -81,7 +81,28 @@ const SERIES_EDGES = [
   seriesCase('65,536 samples', plan(2, 3, 1, 3), 9, [...filled(30_000, 9), ...filled(35_536, -4)]),
   seriesCase('65,537 samples', plan(2, 3, 1, 3), 9, filled(65_537, 9)),
   seriesCase('65,537 samples, not acceptable, work empty', THREE, 8, filled(65_537, 9), { work: [] }),
+  seriesCase('work as long as the driver takes', THREE, 9, [1, 2], { work: filled(131_072, LEAST_I64) }),
+  seriesCase('65 extremes as a sum', THREE, 8, filled(65, 9), {
+    results: times(65, (n) => (n % 2 ? LARGEST_I64 : LEAST_I64)), work: filled(65, LARGEST_I64),
+  }),
+  seriesCase('samples empty, the others not', THREE, 9, [], { results: [1, 2], work: [3, 4] }),
+  seriesCase('results and work alike, not as the samples', THREE, 9, [1, 2], { results: [1], work: [2] }),
+  seriesCase('results long, work short', THREE, 9, [1, 2], { results: [1, 2, 3], work: [4] }),
+  seriesCase('product 2^64', plan(0, 12, 10, 8), 2 ** 24, [1, -1]),
+  seriesCase('product 2^64 + 2^40', plan(0, 12, 10, 8), 2 ** 24 + 1, [1, -1]),
+  seriesCase('words above 32 bits as samples', THREE, 9, [2 ** 32 + 5, -(2 ** 40) - 3, 2 ** 33]),
+  seriesCase('word 2^31 as a sample', THREE, MOST_BOUND, [1, 2 ** 31]),
 ];
+
+// Numbers that could pass if they were cut to 32 bits or read with a sign.
+const SERIES_WIDE = [2n ** 32n + 1n, 2n ** 63n].flatMap((wide) => [
+  ...Object.keys(EIGHT).map((field) => seriesCase(`${field} ${wide}`, { ...EIGHT, [field]: wide }, 9, [5, -3])),
+  seriesCase(`bound ${wide}`, EIGHT, wide, [1, -1]),
+]);
+
+// Windows below, about and above the period of the extension.
+const SERIES_WINDOWS = [[9], [50, -7], [50, -7, 3]].flatMap((samples) => times(8, (radius) => (
+  seriesCase(`radius ${radius}`, plan(radius, 3, 2, 1), 50, samples))));
 
 function chosenSeries(below, n) {
   const chosen = anyPlan(below, 1 + n % 8);
@@ -96,7 +117,10 @@ function smoothSeriesCases() {
     const { plan: each, bound, samples, length } = chosenSeries(below, n);
     return seriesCase('chosen', each, bound, samples, { results: junk(below, length), work: junk(below, length) });
   });
-  return [...SERIES_EXAMPLES, ...PRODUCT_EDGES, ...SERIES_EDGES, ...seriesFaults(), ...chosen];
+  return [
+    ...SERIES_EXAMPLES, ...PRODUCT_EDGES, ...SERIES_EDGES, ...SERIES_WIDE, ...SERIES_WINDOWS,
+    ...seriesFaults(), ...chosen,
+  ];
 }
 
 // Call 2.

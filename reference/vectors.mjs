@@ -1,11 +1,30 @@
-// The stored cases: `write` stores them, `check` checks what is stored, and
+// The stored cases: `write` stores them, and the driver's input and lines, `check` checks what is stored, and
 // `stream NN [NN ..] --stdin FILE --stdout FILE` writes the stream of these calls for the driver and its lines.
 import { existsSync, mkdirSync, readFileSync, readdirSync, writeFileSync } from 'node:fs';
 import { NUMBERS_GIVEN, casesOf } from './cases.mjs';
+import { ONE } from './inputs.mjs';
 import { FOLDER, fileName, fileOf, fileText, storedCases, wordsText } from './stored.mjs';
-import { CALLS, bytesOfWords, linesFor } from './stream.mjs';
+import { CALLS, bytesOfWords, callWords, linesFor } from './stream.mjs';
 
 const MOST_SHOWN = 10;
+
+// The calls that the driver has, and its folder.
+const DRIVEN = [1];
+const DRIVER = new URL('../crates/calls/', import.meta.url);
+
+// A call whose samples are one too many for the driver, and a good one, which is not read any more.
+const GOOD = callWords(1, { plan: ONE, bound: 9, samples: [1], results: [2], work: [3] });
+const TOO_LONG = [...GOOD.slice(0, 6), 131_073n, ...GOOD];
+
+// The driver's input and lines: the stored cases of these calls, and then the end.
+function streamOf(calls) {
+  const cases = calls.flatMap((call) => storedCases(call));
+  const lines = [...cases.map(({ line }) => line), ...linesFor(TOO_LONG)];
+  return {
+    stdin: Buffer.concat([...cases.map(({ words }) => words), TOO_LONG].map(bytesOfWords)),
+    stdout: Buffer.from(lines.map((line) => `${line}\n`).join('')),
+  };
+}
 
 // The checks. Each gives what differs, or null.
 
@@ -40,6 +59,14 @@ function checksOf(call) {
   return [...cases.map((each) => caseDiffers(call, each)), numbersDiffer(call, cases), fileDiffers(call, cases)];
 }
 
+function driverDiffers() {
+  return Object.entries(streamOf(DRIVEN)).map(([name, made]) => {
+    const file = new URL(name, DRIVER);
+    const same = existsSync(file) && made.equals(readFileSync(file));
+    return same ? null : `crates/calls/${name}: not what the stored cases make now`;
+  });
+}
+
 function strangeFiles() {
   if (!existsSync(FOLDER)) return ['vectors: missing'];
   const known = Object.keys(CALLS).map(fileName);
@@ -54,10 +81,12 @@ function write() {
     const cases = casesOf(call).map((each) => ({ ...each, line: linesFor(each.words).join(' | ') }));
     writeFileSync(fileOf(call), fileText(cases));
   }
+  for (const [name, made] of Object.entries(streamOf(DRIVEN))) writeFileSync(new URL(name, DRIVER), made);
 }
 
 function check() {
-  const checks = [...Object.keys(CALLS).flatMap((call) => checksOf(Number(call))), ...strangeFiles()];
+  const stored = Object.keys(CALLS).flatMap((call) => checksOf(Number(call)));
+  const checks = [...stored, ...strangeFiles(), ...driverDiffers()];
   const failures = checks.filter((failure) => failure !== null);
   failures.slice(0, MOST_SHOWN).forEach((failure) => console.log(failure));
   console.log(`${checks.length - failures.length} passed, ${failures.length} failed`);
@@ -68,9 +97,9 @@ function stream(rest) {
   const [stdoutFile, stdoutOption, stdinFile, stdinOption, ...calls] = rest.reverse();
   const known = calls.length > 0 && calls.every((call) => Number(call) in CALLS);
   if (!known || stdinOption !== '--stdin' || stdoutOption !== '--stdout') return usage();
-  const cases = calls.reverse().flatMap((call) => storedCases(Number(call)));
-  writeFileSync(stdinFile, Buffer.concat(cases.map(({ words }) => bytesOfWords(words))));
-  writeFileSync(stdoutFile, cases.map(({ line }) => `${line}\n`).join(''));
+  const { stdin, stdout } = streamOf(calls.reverse().map(Number));
+  writeFileSync(stdinFile, stdin);
+  writeFileSync(stdoutFile, stdout);
 }
 
 function usage() {

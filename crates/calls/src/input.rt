@@ -1,0 +1,89 @@
+// Standard input as 8-byte words, high byte first. Where it ends, the stream is no longer open, and words are 0.
+ghost use mathlib.Core.Path.{_≡_};
+ghost use Prim.Native.Nat.{_%_, _^_, _≤_};
+ghost use mir.Syntax.{w32, w64};
+ghost use mir.Val.{toZ};
+ghost use Rattle.meaning.specs.Record.{number};
+ghost use Rattle.calls.specs.Front.{Counts};
+use crate::output;
+use plan::Plan;
+
+pub fn word(open: &mut bool) -> u64 {
+    let mut bytes = [0u8; 8];
+    if *open && io::read_full(libc::STDIN_FILENO, &mut bytes) == 8 {
+        return word_of(bytes);
+    }
+    *open = false;
+    0
+}
+
+pub fn plan(open: &mut bool) -> Plan {
+    let radius = word(open);
+    let inner = word(open);
+    let edge = word(open);
+    let passes = word(open);
+    Plan::new(radius, inner, edge, passes)
+}
+
+// A slice of samples, into the front of room; how many there are.
+pub fn samples(open: &mut bool, room: &mut [i32]) -> usize
+    ensures { λ r. ⌜ Counts r (now (room .exit)) ⌝ }
+{
+    let count = length(open, room.len());
+    for i in 0..count {
+        room[i] = sample_of(word(open));
+    }
+    count
+}
+
+// The same of 64 bits each.
+pub fn wholes(open: &mut bool, room: &mut [i64]) -> usize
+    ensures { λ r. ⌜ Counts r (now (room .exit)) ⌝ }
+{
+    let count = length(open, room.len());
+    for i in 0..count {
+        room[i] = whole_of(word(open));
+    }
+    count
+}
+
+fn length(open: &mut bool, most: usize) -> usize
+    ensures { λ r. ⌜ r ≤ most ⌝ }
+{
+    let length = word(open);
+    if length > most as u64 {
+        output::stop();
+        *open = false;
+        return 0;
+    }
+    length as usize
+}
+
+fn word_of(bytes: [u8; 8]) -> u64
+    ensures { λ r. ⌜ r ≡ number bytes ⌝ }
+{
+    let mut word = 0;
+    for i in 0..8 {
+        word = word * 256 + bytes[i] as u64;
+    }
+    word
+}
+
+fn whole_of(word: u64) -> i64
+    ensures { λ r. ⌜ r ≡ toZ w64 word ⌝ }
+{
+    if word < 9223372036854775808 {
+        return word as i64;
+    }
+    !((!word) as i64)
+}
+
+fn sample_of(word: u64) -> i32
+    ensures { λ r. ⌜ r ≡ toZ w32 (word % 2 ^ 32) ⌝ }
+{
+    let bits = word % 4294967296;
+    if bits < 2147483648 {
+        return bits as i32;
+    }
+    !((4294967295 - bits) as i32)
+}

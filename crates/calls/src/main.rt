@@ -1,0 +1,37 @@
+// Runs test vectors through the public calls: a stream of words in, a line a call out.
+mod input;
+mod output;
+mod smoothing;
+
+// A longer slice ends the stream.
+const MOST_ELEMENTS: usize = 131072;
+
+// A proved loop has to end, and nothing says that the input does.
+const MOST_CALLS: u64 = 1000000;
+
+fn main() {
+    let mut samples = [0i32; MOST_ELEMENTS];
+    let mut results = [0i64; MOST_ELEMENTS];
+    let mut work = [0i64; MOST_ELEMENTS];
+    run(&mut samples, &mut results, &mut work);
+}
+
+fn run(samples: &mut [i32], results: &mut [i64], work: &mut [i64]) {
+    for _ in 0..MOST_CALLS {
+        if !one_call(samples, results, work) {
+            return;
+        }
+    }
+}
+
+// Whether the stream goes on. A number of no call ends it too.
+fn one_call(samples: &mut [i32], results: &mut [i64], work: &mut [i64]) -> bool {
+    let mut open = true;
+    match input::word(&mut open) {
+        1 => smoothing::smooth_series(&mut open, samples, results, work),
+        _ => {
+            open = false;
+        }
+    }
+    open
+}

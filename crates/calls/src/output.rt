@@ -1,0 +1,94 @@
+// Lines of standard output: words with one space between.
+ghost use mathlib.Core.Path.{_≡_};
+ghost use Prim.Native.Nat.{_+_, _^_, _<_};
+ghost use lib.Signed.{mag};
+ghost use Rattle.meaning.specs.Extension.{emod};
+ghost use Rattle.calls.specs.Checksum.{modulus, gained, checksumOf};
+use libc::STDOUT_FILENO;
+use plan::Answer;
+
+// Of a longer slice a checksum is printed.
+const MOST_PRINTED: usize = 64;
+
+const MODULUS: u64 = 2147483647;
+
+// The first two words of a line.
+pub fn answer(answer: Answer) {
+    io::print_decimal(STDOUT_FILENO, answer.number);
+    number(answer.position as u64);
+}
+
+pub fn number(n: u64) {
+    io::write_all(STDOUT_FILENO, b" ");
+    io::print_decimal(STDOUT_FILENO, n);
+}
+
+pub fn wholes(values: &[i64]) {
+    if values.len() > MOST_PRINTED {
+        io::write_all(STDOUT_FILENO, b" #");
+        number(values.len() as u64);
+        number(checksum(values));
+    } else {
+        elements(values);
+    }
+}
+
+pub fn end_line() {
+    io::write_all(STDOUT_FILENO, b"\n");
+}
+
+// What follows a slice that is too long.
+pub fn stop() {
+    io::write_all(STDOUT_FILENO, b"stop\n");
+}
+
+fn elements(values: &[i64]) {
+    for i in 0..values.len() {
+        whole(values[i]);
+    }
+}
+
+fn whole(value: i64) {
+    if value < 0 {
+        io::write_all(STDOUT_FILENO, b" -");
+        io::print_decimal(STDOUT_FILENO, size(value) + 1);
+    } else {
+        number(size(value));
+    }
+}
+
+// n of n, and of -n - 1, so that every i64 has one.
+fn size(value: i64) -> u64
+    ensures { λ r. ⌜ (r ≡ mag value) × (r < 2 ^ 63) ⌝ }
+{
+    if value < 0 {
+        return (!value) as u64;
+    }
+    value as u64
+}
+
+fn checksum(values: &[i64]) -> u64
+    ensures { λ r. ⌜ r ≡ checksumOf (now (values .entry)) ⌝ }
+{
+    let mut sum = 0;
+    for i in 0..values.len() {
+        sum = gain(sum, i, values[i]);
+    }
+    sum
+}
+
+fn gain(sum: u64, at: usize, value: i64) -> u64
+    requires { ⌜ (sum < modulus) × (at + 1 < 2 ^ 64) ⌝ }
+    ensures { λ r. ⌜ r ≡ gained sum at value ⌝ }
+{
+    (sum + (at as u64 + 1) % MODULUS * residue(value)) % MODULUS
+}
+
+fn residue(value: i64) -> u64
+    ensures { λ r. ⌜ r ≡ emod value modulus ⌝ }
+{
+    if value < 0 {
+        return MODULUS - 1 - size(value) % MODULUS;
+    }
+    size(value) % MODULUS
+}
