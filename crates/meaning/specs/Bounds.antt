@@ -11,11 +11,9 @@ use Rattle.meaning.specs.Extension.{at}
 use Rattle.meaning.specs.Kernel.{plan, divisor}
 
 pub record AllowedPlan (r b a K : ℕ) : Type 0 where
-  pub some : least ≤ K
-  pub passes : K ≤ maxPasses
+  pub passes : (least ≤ K) × (K ≤ maxPasses)
   pub radius : r ≤ maxRadius
-  pub heavy : least ≤ b
-  pub inner : b ≤ maxInner
+  pub inner : (least ≤ b) × (b ≤ maxInner)
   pub edge : a < b
 
 pub record AllowedSeries (r b a K M : ℕ) (f : List ℤ) (nr nw : ℕ) : Type 0 where

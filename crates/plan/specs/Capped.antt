@@ -2,13 +2,13 @@
 --   capped x   x, or one above the largest result where x is larger
 -- Laws: capped-below (a number that is not capped), capped-test, capped-times (one factor more), sizeRows-capped.
 use Prim.Native.Nat.{ℕ, suc, _*_, _≤_, _<_, min}
-use mathlib.Core.Path.{_≡_, refl, sym, _∙_, ap}
+use mathlib.Core.Path.{_≡_, sym, _∙_, ap}
 use native.Mathlib.Nat.{le-mul-of-pos-right}
 use native.Mathlib.Decide.{decLt}
 use native.Mathlib.Omega.{arith}
 use mathlib.Core.Bool.{Bool}
 use lib.Dec.{ltb}
-use borrow.Author.Tests.{lt-ltb, le-ltb}
+use borrow.Author.Tests.{lt-ltb}
 use Rattle.meaning.specs.Limits.{maxResult}
 use Rattle.meaning.specs.Refusals.{sizeRows}
 

@@ -1,20 +1,26 @@
 -- What the test of rows 1 to 4 says of a plan, and the plan's own divisor and reach after it.
--- Laws: plan-passed, plan-failed; divisor-failed, divisor-large, divisor-done; reach-failed, reach-done.
+-- Laws: plan-tested, plan-passed; divisor-failed, divisor-large, divisor-done; reach-failed, reach-done.
 use Prim.Native.Nat.{ℕ, _*_, _≤_, _<_}
-use mathlib.Core.Path.{_≡_, refl, sym, _∙_, ap}
+use mathlib.Core.Path.{_≡_, sym, _∙_, ap}
+use mathlib.Core.Bool.{Bool}
 use mathlib.Core.List.{[], _∷_}
 use native.Mathlib.Nat.{one-mul}
 use native.Mathlib.Omega.{arith}
-use Rattle.meaning.specs.Limits.{maxResult}
+use lib.Dec.{leb, ltb}
+use Rattle.meaning.specs.Limits.{least, maxPasses, maxRadius, maxInner, maxResult}
 use Rattle.meaning.specs.Kernel.{tapReach, divisor}
-use Rattle.meaning.specs.Refusals.{Answer, firstOf, planRows, planDivisor, planReach}
+use Rattle.meaning.specs.Refusals.{Answer, _when_, firstOf, outside, planRows, planDivisor, planReach}
 use Rattle.theory.specs.Stages.{reach-replicate}
-use Rattle.theory.specs.Accepted.{plan-allowed, allowed-plan, planDivisor-refused, planDivisor-large, planDivisor-done, planReach-refused, planReach-done}
+use Rattle.theory.specs.Accepted.{plan-rows, plan-allowed, allowed-plan, planDivisor-refused, planDivisor-large, planDivisor-done, planReach-refused, planReach-done}
 use Rattle.plan.specs.declared.Plan.{Plan}
 use Rattle.plan.specs.Told.{stageOf, stagesOf, AllowedPlan, plain}
 use Rattle.plan.specs.Capped.{capped, capped-below}
 
 module _ (p : Plan) where
+  -- the test, row by row
+  pub plan-tested : {n : ℕ} {passes inner : Bool} → plain n ≡ firstOf ((1 when passes) ∷ (2 when ltb maxRadius (p .radius)) ∷ (3 when inner) ∷ (4 when leb (p .inner) (p .edge)) ∷ []) → passes ≡ outside least maxPasses (p .passes) → inner ≡ outside least maxInner (p .inner) → plain n ≡ firstOf (planRows (stagesOf p ∷ []))
+  plan-tested e k b = e ∙ rw (k, b) (sym (plan-rows (p .radius) (p .inner) (p .edge) (p .passes)))
+
   module _ {n : ℕ} (e : plain n ≡ firstOf (planRows (stagesOf p ∷ []))) where
     number : n ≡ firstOf (planRows (stagesOf p ∷ [])) .number
     number = ap (λ (a : Answer). a .number) e

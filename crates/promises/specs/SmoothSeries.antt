@@ -1,5 +1,6 @@
 -- Smoothing a series. Every theorem is of `series::smooth_series` by its own contract, for all inputs: that it ends is the language's.
 --   lowest-number      demand 1: the number is 0, or that of a row that applies, and then the lowest of those
+--   done-exactly       the number is 0 exactly where no row applies
 --   refused-unchanged  demand 1: a refused call leaves every cell as it was
 --   done-allowed, allowed-done   the number is 0 exactly where the bounds of document 01 hold
 --   done-results       demand 2: the results of a call that is done are the convolution of the extension with the K-fold kernel
@@ -7,7 +8,7 @@
 --   kernel-over        the K-fold kernel's sum is D^K, with D = (2r+1)b + 2a
 --   one-outcome        two outcomes that the contract allows are the same
 use Prim.Native.Nat.{ℕ, _+_, _*_, _^_, _≤_, _<_}
-use mathlib.Core.Path.{_≡_, refl, sym, ap, _∙_}
+use mathlib.Core.Path.{_≡_, sym, ap, _∙_}
 use mathlib.Core.List.{List}
 use lib.ListN.{length}
 use lib.IntN.{ℤ, pos, _-ℤ_, _*ℤ_}
@@ -17,7 +18,7 @@ use denote.Triple.Clauses.{AtExit}
 use borrow.Fn.Kinds.{Dens, resT, endedOf}
 use Rattle.algebra.specs.Within.{sumWithin}
 use Rattle.meaning.specs.Extension.{at, fold, ext}
-use Rattle.meaning.specs.Kernel.{kernel, width, divisor}
+use Rattle.meaning.specs.Kernel.{kernel, width}
 use Rattle.meaning.specs.Smoothing.{convolved, result, results}
 use Rattle.meaning.specs.Refusals as meant
 use Rattle.meaning.specs.Refusals.{Row, firstOf, rowAt, planRows, sizeRows, seriesOf, zeros}
@@ -26,7 +27,7 @@ use Rattle.meaning.specs.Bounds.{AllowedSeries}
 use Rattle.theory.specs.Convolution.{kernel-sum}
 use Rattle.theory.specs.Stages.{divisor-plan}
 use Rattle.theory.specs.Passes.{length-results, at-results}
-use Rattle.theory.specs.Refusals.{done, Rising, Applies, first-applies, first-lowest, ifDone-done, ifDone-refused}
+use Rattle.theory.specs.Refusals.{Numbered, Rising, Applies, first-applies, first-lowest, done-none, none-done, ifDone-done, ifDone-refused}
 use Rattle.theory.specs.Accepted.{series-allowed, allowed-series}
 use Rattle.plan.specs.declared.Plan.{Plan}
 use Rattle.plan.specs.declared.Answer.{Answer}
@@ -55,6 +56,10 @@ rising : (c : Call) → Rising (rows c)
 unfolding smoothRows planRows sizeRows rowAt
 rising c = tt
 
+numbered : (c : Call) → Numbered (rows c)
+unfolding smoothRows planRows sizeRows rowAt
+numbered c = tt
+
 -- any call of the function, as its contract lets it end
 module _ (κs : Lfts 3) (a : Dens κs kinds.ps) (r : resT kinds.r κs .Denot) (s : AtExit (endedOf 3 kinds.ps kinds.r) κs) where
   abbrev pub call : Call
@@ -82,6 +87,9 @@ module _ (κs : Lfts 3) (a : Dens κs kinds.ps) (r : resT kinds.r κs .Denot) (s
 
     pub lowest-number : ((number ≡ 0 → ⊥) → Applies number (rows call)) × ((n : ℕ) → Applies n (rows call) → number ≤ n)
     lowest-number = rw number-is (first-applies (rows call), λ n k. first-lowest (rows call) (rising call) k)
+
+    pub done-exactly : (number ≡ 0 → (n : ℕ) → Applies n (rows call) → ⊥) × (((n : ℕ) → Applies n (rows call) → ⊥) → number ≡ 0)
+    done-exactly = rw number-is (λ e n k. done-none (rows call) (numbered call) e k, none-done (rows call))
 
     pub refused-unchanged : (number ≡ 0 → ⊥) → (call .resultsLeft ≡ call .results) × (call .workLeft ≡ call .work)
     unfolding smoothed

@@ -14,9 +14,8 @@ use Rattle.meaning.specs.Limits.{maxResult}
 use Rattle.meaning.specs.Extension.{at, fold}
 use Rattle.meaning.specs.Kernel.{Stage, divisor, tapSum}
 use Rattle.meaning.specs.Smoothing.{results, pass}
-use Rattle.meaning.specs.Refusals.{Answer, Row, firstOf, differs, within, above, seriesOf, commonRows, zeros}
+use Rattle.meaning.specs.Refusals.{Answer, firstOf, differs, within, above, seriesOf, commonRows}
 use Rattle.meaning.specs.Calls.{sampleRow, smoothRows, smoothed, smoothSeries}
-use Rattle.meaning.specs.Bounds.{AllowedSeries}
 use Rattle.theory.specs.HalfSample.{half-sample}
 use Rattle.theory.specs.Lists.{sized}
 use Rattle.theory.specs.Stages.{inner-replicate, divisor-cons, divisor-part, replicate-part}
@@ -61,7 +60,7 @@ module _ {p : Plan} {f : List ℤ} {nd no : ℕ} (h : Ready p f nd no) where
   room : {k : ℕ} → k < p .passes → h .bound * divisor (replicate k (stageOf p)) * tapSum (stageOf p) ≤ maxResult
   room {k} l =
       let s = stageOf p in
-      let more : divisor (replicate (suc k) s) ≤ divisor (replicate (p .passes) s) = rw (← replicate-part s l) (divisor-part (replicate (suc k) s) (inner-replicate (p .passes - suc k) s (h .allowed .allowed .heavy))) in
+      let more : divisor (replicate (suc k) s) ≤ divisor (replicate (p .passes) s) = rw (← replicate-part s l) (divisor-part (replicate (suc k) s) (inner-replicate (p .passes - suc k) s (h .allowed .allowed .inner .0))) in
       rw (mul-assoc (h .bound) (divisor (replicate k s)) (tapSum s), mul-comm (divisor (replicate k s)) (tapSum s), ← divisor-cons s (replicate k s))
       (le-trans (mul-le-mul-left (h .bound) more) (h .allowed .product))
 

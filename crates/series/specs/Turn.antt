@@ -64,12 +64,12 @@ module _ {p : Plan} {f : List ℤ} {N : ℕ} (h : Passable p f N) where
   pub summable : Summable (p .radius) f
   unfolding tapSum
   summable =
-      let one = le-mul-of-pos-right (h .largest) (h .allowed .heavy) in
-      let more = le-mul-of-pos-right (p .radius * h .largest) (h .allowed .heavy) in
+      let one = le-mul-of-pos-right (h .largest) (h .allowed .inner .0) in
+      let more = le-mul-of-pos-right (p .radius * h .largest) (h .allowed .inner .0) in
       record { some = h .some; largest = h .largest; sized = h .sized; room = omega (arith, one, more) }
 
   step : Step (stageOf p) (ext fold f) (2 * maxResult)
-  step = step-size (stageOf p) (ext-size fold (h .sized)) (h .allowed .heavy) (omega arith)
+  step = step-size (stageOf p) (ext-size fold (h .sized)) (h .allowed .inner .0) (omega arith)
 
   module _ {n : ℕ} {b a w lo first hi : ℤ} (t : Turn p f n b a w lo first hi) where
     on : n + p .radius + 1 ≡ n + suc (p .radius)

@@ -11,9 +11,8 @@ use lib.ListN.{length, replicate, length-replicate}
 use lib.IntN.{ℤ}
 use borrow.Author.Tests.{ltb-false, leb-false, le-ltb, lt-ltb, lt-leb}
 use Rattle.meaning.specs.Limits.{least, maxPasses, maxRadius, maxInner, maxLength, maxResult}
-use Rattle.meaning.specs.Extension.{at}
 use Rattle.meaning.specs.Kernel.{Stage, plan, reach, divisor}
-use Rattle.meaning.specs.Refusals.{Answer, Row, _when_, firstOf, rowAt, some, outside, differs, above, seriesOf, planRows, sizeRows, commonRows, planDivisor, planReach}
+use Rattle.meaning.specs.Refusals.{Answer, Row, _when_, firstOf, rowAt, some, outside, differs, seriesOf, planRows, sizeRows, planDivisor, planReach}
 use Rattle.meaning.specs.Calls.{sampleRow, smoothRows}
 use Rattle.meaning.specs.Bounds.{AllowedPlan, AllowedSeries}
 use Rattle.theory.specs.Refusals.{done, Off, Numbered, first-on, done-off, off-done, refused-first, done-rest, off-append, append-off, rowAt-off, rowAt-none, some-one, some-replicate, or-no, no-or, outside-no, no-outside, differs-no, no-differs, plan-numbered, ifDone-done, ifDone-refused}
@@ -39,19 +38,15 @@ module _ (r b a : ℕ) where
     pub plan-allowed : firstOf (planRows (plan r b a K ∷ [])) .number ≡ 0 → AllowedPlan r b a K
     plan-allowed e =
         let rows = done-off _ tt (sym (ap (λ (a : Answer). a .number) (plan-rows K)) ∙ e) in
-        let passes = outside-no _ _ _ (rows .0) in
-        let inner = outside-no _ _ _ (rows .1 .1 .0) in
         record {
-          some = passes .0;
-          passes = passes .1;
+          passes = outside-no _ _ _ (rows .0);
           radius = ltb-false _ _ (rows .1 .0);
-          heavy = inner .0;
-          inner = inner .1;
+          inner = outside-no _ _ _ (rows .1 .1 .0);
           edge = leb-false _ _ (rows .1 .1 .1 .0);
         }
 
     pub allowed-plan : AllowedPlan r b a K → firstOf (planRows (plan r b a K ∷ [])) ≡ done
-    allowed-plan ok = plan-rows K ∙ off-done _ (no-outside (ok .some) (ok .passes), (le-ltb _ _ (ok .radius), (no-outside (ok .heavy) (ok .inner), (lt-leb _ _ (ok .edge), tt))))
+    allowed-plan ok = plan-rows K ∙ off-done _ (no-outside (ok .passes .0) (ok .passes .1), (le-ltb _ _ (ok .radius), (no-outside (ok .inner .0) (ok .inner .1), (lt-leb _ _ (ok .edge), tt))))
 
     module _ (M : ℕ) (f : List ℤ) (nr nw : ℕ) where
       abbrev wrong : Bool

@@ -4,23 +4,23 @@
 --   Rising rows     the numbers rise from row to row; of rows that are written down, tt
 --   Applies n rows  a row with number n applies
 --   done            the answer 0 with position 0
--- Laws: first-applies, first-lowest (the answer is that of a row that applies, and of the lowest); first-on (the first row applies); done-off and off-done (the answer is 0 exactly where no row applies); off-append, append-off, refused-first, done-rest (rows in two parts);
+-- Laws: first-applies, first-lowest (the answer is that of a row that applies, and of the lowest); done-none, none-done (it is 0 exactly where none does); first-on (the first row applies); done-off, off-done (the same by Off); off-append, append-off, refused-first, done-rest (rows in two parts);
 -- firstWhere-ext, firstWhere-none, firstWhere-is, firstWhere-before; none-next; rowAt-ext, rowAt-on, rowAt-off, rowAt-none;
 -- some-one, some-two, some-replicate; or-no, no-or; outside-no, no-outside, differs-no, no-differs, differs-self, above-no, no-above (a test that fails, and why it does);
 -- ifDone-done, ifDone-refused; plan-numbered, common-numbered.
-use mathlib.Core.Path.{_≡_, refl, sym, _∙_, ap, ap₂}
+use mathlib.Core.Path.{_≡_, refl, sym, _∙_, ap}
 use mathlib.Core.Bool.{Bool, true, false, cond, not, _&&_, _||_, true≢false, or-false}
 use mathlib.Core.List.{List, [], _∷_, _++_}
 use Prim.Native.Nat.{ℕ, zero, suc, _+_, _≤_, _<_}
-use native.Mathlib.Decide.{decLt}
+use native.Mathlib.Decide.{decLt, ℕ-discrete}
 use native.Mathlib.Omega.{arith}
-use lib.Dec.{T, leb, ltb, eqb}
+use lib.Dec.{T, ltb, eqb}
 use lib.ListN.{replicate}
 use lib.IntN.{ℤ, natAbs}
 use borrow.Author.Tests.{ltb-true, ltb-false, le-ltb, lt-ltb, eqb-true, eq-eqb, ne-eqb}
 use Rattle.algebra.specs.Size.{Abs}
 use Rattle.meaning.specs.Kernel.{Stage}
-use Rattle.meaning.specs.Refusals.{Answer, Row, firstOf, _when_, firstWhere, rowAt, some, outside, differs, above, Shape, planRows, sizeRows, commonRows, ifDone}
+use Rattle.meaning.specs.Refusals.{Answer, Row, firstOf, firstWhere, rowAt, some, outside, differs, above, Shape, planRows, sizeRows, commonRows, ifDone}
 
 abbrev pub done : Answer
 done = record { number = 0; position = 0 }
@@ -98,6 +98,21 @@ lowest-from m (row ∷ rows) {n} t (later k) =
 
 pub first-lowest : (rows : List Row) {n : ℕ} → Rising rows → Applies n rows → firstOf rows .number ≤ n
 first-lowest rows t k = lowest-from 0 rows t k .0
+
+-- ---- done exactly where no row applies
+off-none : (rows : List Row) {n : ℕ} → Off rows → Applies n rows → ⊥
+off-none (row ∷ rows) h (here e k) = true≢false (sym k ∙ h .0)
+off-none (row ∷ rows) h (later k) = off-none rows (h .1) k
+
+pub done-none : (rows : List Row) → Numbered rows → firstOf rows .number ≡ 0 → {n : ℕ} → Applies n rows → ⊥
+done-none rows t e k = off-none rows (done-off rows t e) k
+
+pub none-done : (rows : List Row) → ((n : ℕ) → Applies n rows → ⊥) → firstOf rows .number ≡ 0
+none-done rows h = go (ℕ-discrete (firstOf rows .number) 0)
+  where
+    go : Dec (firstOf rows .number ≡ 0) → firstOf rows .number ≡ 0
+    go (yes e) = e
+    go (no e) = absurd (h _ (first-applies rows e))
 
 -- ---- rows in two parts
 pub off-append : (rows more : List Row) → Off rows → Off more → Off (rows ++ more)

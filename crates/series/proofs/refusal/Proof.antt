@@ -3,11 +3,6 @@ use Rattle.plan.specs.Told.{stagesOf}
 use Rattle.series.specs.Steps.{test-refused, test-rest}
 use Rattle.series.proofs.refusal.Statement.{statement}
 use Rattle.series.proofs.refusal.Tie as tie
-use Rattle.series.proofs.refusal.Reads as reads
-use Rattle.series.proofs.refusal.Lts as lts
-use Rattle.plan.proofs.inner.lengths_differ.Reads as lengths-differ-reads
-use Rattle.plan.proofs.inner.sample_refusal.Reads as sample-refusal-reads
-use Rattle.plan.proofs.inner.series_refusal.Reads as series-refusal-reads
 
 lengths-differ-requires : tie.Need-lengths-differ-requires
 lengths-differ-requires c κs = search needs

@@ -5,11 +5,6 @@ use borrow.Author.Needs.{needs}
 use Rattle.series.specs.Steps.{ready, call-refused, call-done}
 use Rattle.series.proofs.smooth_series.Statement.{statement}
 use Rattle.series.proofs.smooth_series.Tie as tie
-use Rattle.series.proofs.smooth_series.Reads as reads
-use Rattle.series.proofs.smooth_series.Lts as lts
-use Rattle.series.proofs.inner.clear.Reads as clear-reads
-use Rattle.series.proofs.refusal.Reads as refusal-reads
-use Rattle.series.proofs.smooth_into.Reads as smooth-into-reads
 
 refusal-requires : tie.Need-refusal-requires
 refusal-requires c κs = search needs

@@ -3,10 +3,6 @@ use Rattle.plan.specs.Told.{AllowedPlan}
 use Rattle.plan.specs.Own.{plan-passed, divisor-failed, divisor-large, divisor-done}
 use Rattle.plan.proofs.Plan.divisor.Statement.{statement}
 use Rattle.plan.proofs.Plan.divisor.Tie as tie
-use Rattle.plan.proofs.Plan.divisor.Reads as reads
-use Rattle.plan.proofs.Plan.divisor.Lts as lts
-use Rattle.plan.proofs.inner.plan_refusal.Reads as plan-refusal-reads
-use Rattle.plan.proofs.inner.scaled.Reads as scaled-reads
 
 plan-refusal-requires : tie.Need-plan-refusal-requires
 plan-refusal-requires c κs = search needs

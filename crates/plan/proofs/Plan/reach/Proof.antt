@@ -9,10 +9,6 @@ use Rattle.plan.specs.Told.{stageOf, AllowedPlan}
 use Rattle.plan.specs.Own.{plan-passed, reach-failed, reach-done}
 use Rattle.plan.proofs.Plan.reach.Statement.{statement}
 use Rattle.plan.proofs.Plan.reach.Tie as tie
-use Rattle.plan.proofs.Plan.reach.Reads as reads
-use Rattle.plan.proofs.Plan.reach.Lts as lts
-use Rattle.plan.proofs.inner.plan_refusal.Reads as plan-refusal-reads
-use Rattle.plan.proofs.inner.tap_reach.Reads as tap-reach-reads
 
 plan-refusal-requires : tie.Need-plan-refusal-requires
 plan-refusal-requires c κs = search needs
@@ -22,7 +18,7 @@ returns c = reach-failed (c .before .before .args .self) (c .before .plan-refusa
 
 -- far below 2^64
 within : (p : Plan) → AllowedPlan p → p .passes * tapReach (stageOf p) ≤ 8 * 1024
-within p ok = let far : tapReach (stageOf p) ≤ 1024 = omega (arith, tapReach-width (stageOf p), ok .radius) in mul-le-mul (ok .passes) far
+within p ok = let far : tapReach (stageOf p) ≤ 1024 = omega (arith, tapReach-width (stageOf p), ok .radius) in mul-le-mul (ok .passes .1) far
 
 allowed : (c : tie.Else1) → AllowedPlan (c .before .before .args .self)
 allowed c = plan-passed _ (c .before .plan-refusal .ensures) (c .if1 .left)

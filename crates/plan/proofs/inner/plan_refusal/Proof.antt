@@ -1,12 +1,7 @@
-use mathlib.Core.Path.{_∙_, sym}
 use borrow.Author.Needs.{needs}
-use Rattle.theory.specs.Accepted.{plan-rows}
+use Rattle.plan.specs.Own.{plan-tested}
 use Rattle.plan.proofs.inner.plan_refusal.Statement.{statement}
 use Rattle.plan.proofs.inner.plan_refusal.Tie as tie
-use Rattle.plan.proofs.inner.plan_refusal.Reads as reads
-use Rattle.plan.proofs.inner.plan_refusal.Lts as lts
-use Rattle.plan.proofs.inner.first_row.Reads as first-row-reads
-use Rattle.plan.proofs.inner.outside.Reads as outside-reads
 
 outside-requires : tie.Need-outside-requires
 outside-requires c κs = search needs
@@ -18,9 +13,7 @@ first-row-requires : tie.Need-first-row-requires
 first-row-requires c κs = search needs
 
 returns : tie.Need-returns
-returns c =
-    let p = c .before .before .before .before .before .args .plan in
-    c .first-row .ensures ∙ rw (c .before .before .outside2 .ensures, c .before .before .before .before .outside .ensures) (sym (plan-rows (p .radius) (p .inner) (p .edge) (p .passes)))
+returns c = plan-tested (c .before .before .before .before .before .args .plan) (c .first-row .ensures) (c .before .before .before .before .outside .ensures) (c .before .before .outside2 .ensures)
 
 pub plan-refusal-spec : {M : Type 1} → statement M
 plan-refusal-spec =

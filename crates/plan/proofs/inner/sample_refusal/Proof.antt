@@ -1,5 +1,5 @@
 -- No sample before i is picked and too large.
-use Prim.Native.Nat.{ℕ, _+_, _-_, _≤_, _<_}
+use Prim.Native.Nat.{ℕ, _-_, _≤_, _<_}
 use mathlib.Core.Path.{_≡_, sym, ap, _∙_}
 use mathlib.Core.Bool.{Bool, true, false, _&&_, and-false}
 use mathlib.Core.List.{List, []}
@@ -8,7 +8,6 @@ use native.Mathlib.Decide.{decLt}
 use borrow.Author.Needs.{needs}
 use borrow.Author.Tests.{lt-ltb, le-ltb, lt-leb, le-leb}
 use lib.Dec.{leb}
-use lib.ListN.{length}
 use lib.IntN.{ℤ, natAbs}
 use mir.Syntax.{w32}
 use mir.Facts.{toZ-ofZ}
@@ -17,7 +16,6 @@ use Rattle.meaning.specs.Refusals.{above, within}
 use Rattle.theory.specs.Refusals.{none-next, rowAt-on, rowAt-off, off-done}
 use Rattle.plan.proofs.inner.sample_refusal.Statement.{statement}
 use Rattle.plan.proofs.inner.sample_refusal.Tie as tie
-use Rattle.plan.proofs.inner.size.Reads as size-reads
 
 abbrev bad : ℕ → List ℤ → ℕ → ℕ → ℕ → Bool
 bad bound samples start end j = within start end j && above bound (at samples j)

@@ -1,4 +1,4 @@
-use Prim.Native.Nat.{ℕ, suc, _+_, _*_, _-_, _^_, _≤_}
+use Prim.Native.Nat.{ℕ, _+_, _*_, _-_, _^_, _≤_}
 use mathlib.Core.Path.{_≡_, sym, ap, _∙_}
 use native.Mathlib.Nat.{mul-assoc, mul-one, pow-suc, pow-zero}
 use native.Mathlib.Numerals.{add-one}
@@ -9,8 +9,6 @@ use Rattle.plan.specs.Told.{stageOf}
 use Rattle.plan.specs.Capped.{capped, capped-times}
 use Rattle.plan.proofs.inner.scaled.Statement.{statement}
 use Rattle.plan.proofs.inner.scaled.Tie as tie
-use Rattle.plan.proofs.inner.capped_times.Reads as capped-times-reads
-use Rattle.plan.proofs.inner.tap_sum.Reads as tap-sum-reads
 
 grow : (x d k : ℕ) → x * d ^ (k + 1) ≡ x * d ^ k * d
 grow x d k = rw (add-one, pow-suc, mul-assoc)
@@ -28,7 +26,7 @@ loop-holds : tie.Need-loop-holds Inv-loop μ-loop
 loop-holds c = (omega arith, rw (pow-zero, mul-one))
 
 capped-times-requires : tie.Need-capped-times-requires Inv-loop μ-loop
-capped-times-requires c κs = rw (c .before .before .tap-sum .ensures) (tapSum-positive _ (c .before .before .before .pre .heavy))
+capped-times-requires c κs = rw (c .before .before .tap-sum .ensures) (tapSum-positive _ (c .before .before .before .pre .inner .0))
 
 add-k : tie.Need-add-k Inv-loop μ-loop
 add-k c = search needs
@@ -40,7 +38,7 @@ loop-again : tie.Need-loop-again Inv-loop μ-loop
 loop-again c =
     let l = c .before .before .loop in
     let d = c .before .before .before .tap-sum .result in
-    (omega arith, capped-times (l .product) _ _ (rw (c .before .before .before .tap-sum .ensures) (tapSum-positive _ (c .before .before .before .before .pre .heavy))) (l .inv .1) (c .capped-times .ensures) ∙ ap capped (sym (grow _ d (l .k))))
+    (omega arith, capped-times (l .product) _ _ (rw (c .before .before .before .tap-sum .ensures) (tapSum-positive _ (c .before .before .before .before .pre .inner .0))) (l .inv .1) (c .capped-times .ensures) ∙ ap capped (sym (grow _ d (l .k))))
 
 returns : tie.Need-returns Inv-loop μ-loop
 returns c =

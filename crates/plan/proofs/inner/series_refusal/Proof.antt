@@ -6,12 +6,6 @@ use Rattle.plan.specs.Own.{plan-passed}
 use Rattle.plan.specs.Capped.{sizeRows-capped}
 use Rattle.plan.proofs.inner.series_refusal.Statement.{statement}
 use Rattle.plan.proofs.inner.series_refusal.Tie as tie
-use Rattle.plan.proofs.inner.series_refusal.Reads as reads
-use Rattle.plan.proofs.inner.series_refusal.Lts as lts
-use Rattle.plan.proofs.inner.outside.Reads as outside-reads
-use Rattle.plan.proofs.inner.plan_refusal.Reads as plan-refusal-reads
-use Rattle.plan.proofs.inner.scaled.Reads as scaled-reads
-use Rattle.plan.proofs.inner.size_refusal.Reads as size-refusal-reads
 
 plan-refusal-requires : tie.Need-plan-refusal-requires
 plan-refusal-requires c κs = search needs

@@ -1,5 +1,4 @@
 -- A 64-bit number holds every 32-bit one, and its negative.
-use Prim.Native.Nat.{_≤_, _<_}
 use mathlib.Core.Path.{_≡_, _∙_}
 use mathlib.Core.Bool.{true, false, true≢false}
 use native.Mathlib.Omega.{arith}

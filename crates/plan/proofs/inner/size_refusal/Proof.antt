@@ -3,10 +3,6 @@ use borrow.Author.Needs.{needs}
 use Rattle.meaning.specs.Refusals.{sizeRows}
 use Rattle.plan.proofs.inner.size_refusal.Statement.{statement}
 use Rattle.plan.proofs.inner.size_refusal.Tie as tie
-use Rattle.plan.proofs.inner.size_refusal.Reads as reads
-use Rattle.plan.proofs.inner.size_refusal.Lts as lts
-use Rattle.plan.proofs.inner.first_row.Reads as first-row-reads
-use Rattle.plan.proofs.inner.outside.Reads as outside-reads
 
 outside-requires : tie.Need-outside-requires
 outside-requires c κs = search needs

@@ -3,8 +3,6 @@ use borrow.Author.Needs.{needs}
 use borrow.Author.Tests.{eq-eqb, ne-eqb}
 use Rattle.plan.proofs.inner.tap_reach.Statement.{statement}
 use Rattle.plan.proofs.inner.tap_reach.Tie as tie
-use Rattle.plan.proofs.inner.tap_reach.Reads as reads
-use Rattle.plan.proofs.inner.tap_reach.Lts as lts
 
 add-result : tie.Need-add-result
 add-result c = search needs

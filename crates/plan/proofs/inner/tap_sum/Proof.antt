@@ -9,7 +9,7 @@ use Rattle.plan.proofs.inner.tap_sum.Statement.{statement}
 use Rattle.plan.proofs.inner.tap_sum.Tie as tie
 
 within : (p : Plan) → AllowedPlan p → (2 * p .radius + 1) * p .inner ≤ 2047 * 255
-within p ok = let w : 2 * p .radius + 1 ≤ 2047 = omega (arith, ok .radius) in mul-le-mul w (ok .inner)
+within p ok = let w : 2 * p .radius + 1 ≤ 2047 = omega (arith, ok .radius) in mul-le-mul w (ok .inner .1)
 
 mul-result : tie.Need-mul-result
 mul-result c = search needs
