@@ -27,7 +27,7 @@ use Rattle.meaning.specs.Bounds.{AllowedSeries}
 use Rattle.theory.specs.Convolution.{kernel-sum}
 use Rattle.theory.specs.Stages.{divisor-plan}
 use Rattle.theory.specs.Passes.{length-results, at-results}
-use Rattle.theory.specs.Refusals.{Numbered, Rising, Applies, first-applies, first-lowest, done-none, none-done, ifDone-done, ifDone-refused}
+use Rattle.theory.specs.Refusals.{Rising, Applies, first-applies, first-lowest, done-none, none-done, ifDone-done, ifDone-refused}
 use Rattle.theory.specs.Accepted.{series-allowed, allowed-series}
 use Rattle.plan.specs.declared.Plan.{Plan}
 use Rattle.plan.specs.declared.Answer.{Answer}
@@ -55,10 +55,6 @@ Allowed c = AllowedSeries (c .plan .radius) (c .plan .inner) (c .plan .edge) (c 
 rising : (c : Call) → Rising (rows c)
 unfolding smoothRows planRows sizeRows rowAt
 rising c = tt
-
-numbered : (c : Call) → Numbered (rows c)
-unfolding smoothRows planRows sizeRows rowAt
-numbered c = tt
 
 -- any call of the function, as its contract lets it end
 module _ (κs : Lfts 3) (a : Dens κs kinds.ps) (r : resT kinds.r κs .Denot) (s : AtExit (endedOf 3 kinds.ps kinds.r) κs) where
@@ -89,7 +85,7 @@ module _ (κs : Lfts 3) (a : Dens κs kinds.ps) (r : resT kinds.r κs .Denot) (s
     lowest-number = rw number-is (first-applies (rows call), λ n k. first-lowest (rows call) (rising call) k)
 
     pub done-exactly : (number ≡ 0 → (n : ℕ) → Applies n (rows call) → ⊥) × (((n : ℕ) → Applies n (rows call) → ⊥) → number ≡ 0)
-    done-exactly = rw number-is (λ e n k. done-none (rows call) (numbered call) e k, none-done (rows call))
+    done-exactly = rw number-is (λ e n k. done-none (rows call) (rising call) e k, none-done (rows call))
 
     pub refused-unchanged : (number ≡ 0 → ⊥) → (call .resultsLeft ≡ call .results) × (call .workLeft ≡ call .work)
     unfolding smoothed

@@ -21,7 +21,7 @@ use Rattle.theory.specs.Lists.{sized}
 use Rattle.theory.specs.Stages.{inner-replicate, divisor-cons, divisor-part, replicate-part}
 use Rattle.theory.specs.Passes.{length-results, results-none, results-cons}
 use Rattle.theory.specs.Sizes.{results-size}
-use Rattle.theory.specs.Refusals.{refused-first, done-rest, rowAt-ext, no-differs, common-numbered, ifDone-done, ifDone-refused}
+use Rattle.theory.specs.Refusals.{refused-first, done-rest, rowAt-ext, no-differs, common-rising, ifDone-done, ifDone-refused}
 use Rattle.theory.specs.Accepted.{series-allowed}
 use Rattle.plan.specs.declared.Plan.{Plan}
 use Rattle.plan.specs.Told.{stageOf, stagesOf}
@@ -42,7 +42,7 @@ module _ (ss : List Stage) (M : ℕ) (f : List ℤ) (nr nw : ℕ) where
     test-refused h = rw rows-tested (refused-first _ _ common h)
 
     pub test-rest : a .number ≡ 0 → {b : Answer} → b ≡ firstOf (sampleRow M f (within 0 (length f)) ∷ []) → b ≡ firstOf (smoothRows (seriesOf ss (length f)) M f nr nw)
-    test-rest z g = rw rows-tested (done-rest _ _ (common-numbered (seriesOf ss (length f)) M _) common z g)
+    test-rest z g = rw rows-tested (done-rest _ _ (common-rising (seriesOf ss (length f)) M _) common z g)
 
 -- ---- the passes
 pub swapped : {p : Plan} {f : List ℤ} {nd no : ℕ} → Ready p f nd no → Ready p f no nd

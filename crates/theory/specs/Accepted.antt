@@ -15,7 +15,7 @@ use Rattle.meaning.specs.Kernel.{Stage, plan, reach, divisor}
 use Rattle.meaning.specs.Refusals.{Answer, Row, _when_, firstOf, rowAt, some, outside, differs, seriesOf, planRows, sizeRows, planDivisor, planReach}
 use Rattle.meaning.specs.Calls.{sampleRow, smoothRows}
 use Rattle.meaning.specs.Bounds.{AllowedPlan, AllowedSeries}
-use Rattle.theory.specs.Refusals.{done, Off, Numbered, first-on, done-off, off-done, refused-first, done-rest, off-append, append-off, rowAt-off, rowAt-none, some-one, some-replicate, or-no, no-or, outside-no, no-outside, differs-no, no-differs, plan-numbered, ifDone-done, ifDone-refused}
+use Rattle.theory.specs.Refusals.{done, Off, Rising, first-on, done-off, off-done, refused-first, done-rest, off-append, append-off, rowAt-off, rowAt-none, some-one, some-replicate, or-no, no-or, outside-no, no-outside, differs-no, no-differs, plan-rising, ifDone-done, ifDone-refused}
 
 some-stage : (t : Stage → Bool) (K : ℕ) (s : Stage) → some (some t) (replicate (suc K) s ∷ []) ≡ t s
 some-stage t K s = some-one (some t) (replicate (suc K) s) ∙ some-replicate t (suc K) s (omega arith)
@@ -58,14 +58,14 @@ module _ (r b a : ℕ) where
       abbrev rows : List Row
       rows = smoothRows (seriesOf (plan r b a K) (length f)) M f nr nw
 
-      rows-numbered : Numbered rows
+      rows-rising : Rising rows
       unfolding smoothRows planRows sizeRows rowAt
-      rows-numbered = tt
+      rows-rising = tt
 
       pub series-allowed : firstOf rows .number ≡ 0 → AllowedSeries r b a K M f nr nw
       unfolding smoothRows sizeRows
       series-allowed e =
-          let all = append-off (planRows (plan r b a K ∷ []) ++ shared) (sampleRow M f (λ i. true) ∷ []) (done-off rows rows-numbered e) in
+          let all = append-off (planRows (plan r b a K ∷ []) ++ shared) (sampleRow M f (λ i. true) ∷ []) (done-off rows rows-rising e) in
           let part = append-off (planRows (plan r b a K ∷ [])) shared (all .0) in
           let size = part .1 in
           let both = or-no (differs (length f) (length f) || differs nr (length f)) (differs nw (length f)) (size .1 .1 .1 .0) in
@@ -82,7 +82,7 @@ module _ (r b a : ℕ) where
       pub allowed-series : AllowedSeries r b a K M f nr nw → firstOf rows ≡ done
       unfolding smoothRows sizeRows
       allowed-series ok =
-          let plans : Off (planRows (plan r b a K ∷ [])) = done-off _ (plan-numbered _) (ap (λ (x : Answer). x .number) (allowed-plan (ok .allowed))) in
+          let plans : Off (planRows (plan r b a K ∷ [])) = done-off _ (plan-rising _) (ap (λ (x : Answer). x .number) (allowed-plan (ok .allowed))) in
           let lengths = no-or (no-or (no-differs {n = length f} refl) (no-differs (ok .results))) (no-differs (ok .work)) in
           let size : Off shared = (no-outside (ok .bound .0) (ok .bound .1), (le-ltb _ _ (ok .product), (no-outside (ok .count .0) (ok .count .1), (lengths, tt)))) in
           let samples : Off (sampleRow M f (λ i. true) ∷ []) = (rowAt-off 11 (length f) (λ i l. le-ltb _ _ (ok .samples i l)), tt) in
@@ -105,7 +105,7 @@ module _ (r b a : ℕ) where
       six = (6 when ltb maxResult (divisor (plan r b a K))) ∷ []
 
       then-six : {x : Answer} → x ≡ firstOf six → x ≡ firstOf (planRows (plan r b a K ∷ []) ++ six)
-      then-six e = done-rest _ _ (plan-numbered _) (sym (allowed-plan ok)) refl e
+      then-six e = done-rest _ _ (plan-rising _) (sym (allowed-plan ok)) refl e
 
       pub planDivisor-large : maxResult < divisor (plan r b a K) → planDivisor (plan r b a K) ≡ 0
       unfolding planDivisor

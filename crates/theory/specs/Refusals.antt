@@ -1,13 +1,13 @@
 -- The table of numbers: which row answers, and what an answer of 0 says.
---   Numbered rows   no row answers 0; of rows that are written down, tt
---   Off rows        no row applies
---   Rising rows     the numbers rise from row to row; of rows that are written down, tt
---   Applies n rows  a row with number n applies
---   done            the answer 0 with position 0
--- Laws: first-applies, first-lowest (the answer is that of a row that applies, and of the lowest); done-none, none-done (it is 0 exactly where none does); first-on (the first row applies); done-off, off-done (the same by Off); off-append, append-off, refused-first, done-rest (rows in two parts);
+--   Rising rows      the numbers rise from row to row, from above 0; of rows that are written down, tt
+--   Applies n rows   a row with number n applies
+--   Off rows         no row applies
+--   done             the answer 0 with position 0
+-- Laws: first-on (the first row applies); first-applies, first-lowest (the answer is that of a row that applies, and of the lowest);
+-- done-off, off-done, done-none, none-done (it is 0 exactly where none applies); off-append, append-off; refused-first, done-rest (rows in two parts);
 -- firstWhere-ext, firstWhere-none, firstWhere-is, firstWhere-before; none-next; rowAt-ext, rowAt-on, rowAt-off, rowAt-none;
--- some-one, some-two, some-replicate; or-no, no-or; outside-no, no-outside, differs-no, no-differs, differs-self, above-no, no-above (a test that fails, and why it does);
--- ifDone-done, ifDone-refused; plan-numbered, common-numbered.
+-- some-one, some-replicate; or-no, no-or, outside-no, no-outside, differs-no, no-differs (a test that fails, and why it does);
+-- ifDone-done, ifDone-refused; plan-rising, common-rising.
 use mathlib.Core.Path.{_≡_, refl, sym, _∙_, ap}
 use mathlib.Core.Bool.{Bool, true, false, cond, not, _&&_, _||_, true≢false, or-false}
 use mathlib.Core.List.{List, [], _∷_, _++_}
@@ -16,21 +16,19 @@ use native.Mathlib.Decide.{decLt, ℕ-discrete}
 use native.Mathlib.Omega.{arith}
 use lib.Dec.{T, ltb, eqb}
 use lib.ListN.{replicate}
-use lib.IntN.{ℤ, natAbs}
 use borrow.Author.Tests.{ltb-true, ltb-false, le-ltb, lt-ltb, eqb-true, eq-eqb, ne-eqb}
-use Rattle.algebra.specs.Size.{Abs}
 use Rattle.meaning.specs.Kernel.{Stage}
-use Rattle.meaning.specs.Refusals.{Answer, Row, firstOf, firstWhere, rowAt, some, outside, differs, above, Shape, planRows, sizeRows, commonRows, ifDone}
+use Rattle.meaning.specs.Refusals.{Answer, Row, firstOf, firstWhere, rowAt, some, outside, differs, Shape, planRows, sizeRows, commonRows, ifDone}
 
 abbrev pub done : Answer
 done = record { number = 0; position = 0 }
 
-abbrev numbered : List Row → Bool
-numbered [] = true
-numbered (row ∷ rows) = ltb 0 (row .answer .number) && numbered rows
+abbrev risesFrom : ℕ → List Row → Bool
+risesFrom n [] = true
+risesFrom n (row ∷ rows) = ltb n (row .answer .number) && risesFrom (row .answer .number) rows
 
-abbrev pub Numbered : List Row → Type 0
-Numbered rows = T (numbered rows)
+abbrev pub Rising : List Row → Type 0
+Rising rows = T (risesFrom 0 rows)
 
 abbrev pub Off : List Row → Type 0
 Off [] = Unit {0}
@@ -53,25 +51,21 @@ unfolding firstOf
 off-done [] h = refl
 off-done (row ∷ rows) h = rw (h .0) (off-done rows (h .1))
 
-pub done-off : (rows : List Row) → Numbered rows → firstOf rows .number ≡ 0 → Off rows
+off-from : (m : ℕ) (rows : List Row) → T (risesFrom m rows) → firstOf rows .number ≡ 0 → Off rows
 unfolding firstOf
-done-off [] t e = tt
-done-off (row ∷ rows) t e =
-    let (l, u) = split-lt 0 (row .answer .number) (numbered rows) t in
-    go (row .applies) refl l (done-off rows u) e
+off-from m [] t e = tt
+off-from m (row ∷ rows) t e =
+    let (l, u) = split-lt m (row .answer .number) (risesFrom (row .answer .number) rows) t in
+    go (row .applies) refl l (off-from (row .answer .number) rows u) e
   where
-    go : (b : Bool) → row .applies ≡ b → 0 < row .answer .number → (firstOf rows .number ≡ 0 → Off rows) → cond b (row .answer) (firstOf rows) .number ≡ 0 → (row .applies ≡ false) × Off rows
+    go : (b : Bool) → row .applies ≡ b → m < row .answer .number → (firstOf rows .number ≡ 0 → Off rows) → cond b (row .answer) (firstOf rows) .number ≡ 0 → (row .applies ≡ false) × Off rows
     go true h l k e = let no : ⊥ = omega arith in absurd no
     go false h l k e = (h, k e)
 
+pub done-off : (rows : List Row) → Rising rows → firstOf rows .number ≡ 0 → Off rows
+done-off rows t e = off-from 0 rows t e
+
 -- ---- the lowest number that applies
-abbrev risesFrom : ℕ → List Row → Bool
-risesFrom n [] = true
-risesFrom n (row ∷ rows) = ltb n (row .answer .number) && risesFrom (row .answer .number) rows
-
-abbrev pub Rising : List Row → Type 0
-Rising rows = T (risesFrom 0 rows)
-
 pub data Applies (n : ℕ) : List Row → Type 0 where
   here : {row : Row} {rows : List Row} → row .answer .number ≡ n → row .applies ≡ true → Applies n (row ∷ rows)
   later : {row : Row} {rows : List Row} → Applies n rows → Applies n (row ∷ rows)
@@ -104,7 +98,7 @@ off-none : (rows : List Row) {n : ℕ} → Off rows → Applies n rows → ⊥
 off-none (row ∷ rows) h (here e k) = true≢false (sym k ∙ h .0)
 off-none (row ∷ rows) h (later k) = off-none rows (h .1) k
 
-pub done-none : (rows : List Row) → Numbered rows → firstOf rows .number ≡ 0 → {n : ℕ} → Applies n rows → ⊥
+pub done-none : (rows : List Row) → Rising rows → firstOf rows .number ≡ 0 → {n : ℕ} → Applies n rows → ⊥
 done-none rows t e k = off-none rows (done-off rows t e) k
 
 pub none-done : (rows : List Row) → ((n : ℕ) → Applies n rows → ⊥) → firstOf rows .number ≡ 0
@@ -138,7 +132,7 @@ refused-first (row ∷ rows) more {a} e n = go (row .applies) (λ f. refused-fir
     go true k e = e
     go false k e = k e
 
-pub done-rest : (rows more : List Row) {a b : Answer} → Numbered rows → a ≡ firstOf rows → a .number ≡ 0 → b ≡ firstOf more → b ≡ firstOf (rows ++ more)
+pub done-rest : (rows more : List Row) {a b : Answer} → Rising rows → a ≡ firstOf rows → a .number ≡ 0 → b ≡ firstOf more → b ≡ firstOf (rows ++ more)
 done-rest rows more {a} t e z f = f ∙ sym (off-skip rows more (done-off rows t (rw (← e) z)))
 
 -- ---- the first place where a test is true
@@ -231,12 +225,6 @@ differs-no n asked e = eqb-true n asked (not-not (eqb n asked) e)
 pub no-differs : {n asked : ℕ} → n ≡ asked → differs n asked ≡ false
 no-differs {n} {asked} e = ap not (eq-eqb n asked e)
 
-pub above-no : (M : ℕ) (z : ℤ) → above M z ≡ false → Abs z M
-above-no M z e = record { bound = ltb-false M (natAbs z) e }
-
-pub no-above : {M : ℕ} {z : ℤ} → Abs z M → above M z ≡ false
-no-above {M} {z} h = le-ltb M (natAbs z) (h .bound)
-
 -- ---- what a call leaves
 pub ifDone-done : {A : Type 0} (a : Answer) (new old : A) → a .number ≡ 0 → ifDone a new old ≡ new
 unfolding ifDone
@@ -247,10 +235,10 @@ unfolding ifDone
 ifDone-refused a new old e = rw (ne-eqb (a .number) 0 e)
 
 -- ---- the rows that calls share
-pub plan-numbered : (ps : List (List Stage)) → Numbered (planRows ps)
+pub plan-rising : (ps : List (List Stage)) → Rising (planRows ps)
 unfolding planRows
-plan-numbered ps = tt
+plan-rising ps = tt
 
-pub common-numbered : (s : Shape) (M : ℕ) (wrongLength : Bool) → Numbered (commonRows s M wrongLength)
+pub common-rising : (s : Shape) (M : ℕ) (wrongLength : Bool) → Rising (commonRows s M wrongLength)
 unfolding planRows sizeRows
-common-numbered s M wrongLength = tt
+common-rising s M wrongLength = tt
