@@ -197,6 +197,13 @@ export function planner({ sigma, passes, inner }) {
   return { ...DONE, ...found };
 }
 
+// A plan by itself. Its divisor is 0 where it is refused under every bound, and the least bound is 1.
+export function planByItself({ plan }) {
+  if (plansRefused([plan])) return { divisor: 0n, reach: 0n };
+  const divisor = divisorOf(plan);
+  return { divisor: divisor > MOST_PRODUCT ? 0n : divisor, reach: BigInt(reachOf(plan)) };
+}
+
 // Doubles in.
 
 function acceptable(double, bound) {

@@ -3,11 +3,13 @@
 import { casesOfSmoothing } from './cases-smoothing.mjs';
 import { casesOfOutputs } from './cases-outputs.mjs';
 import { casesOfRecords } from './cases-records.mjs';
+import { casesOfPlans } from './cases-plans.mjs';
 import { callWords } from './stream.mjs';
 
 // The numbers each call can give; `check` asserts that the stored cases give them all.
 // The planner's 15 cannot be reached: sigma is at most 256, so the radius found is at most 442.
 // The summary of a series is lent results alone, whose length is N itself, so it cannot give 8.
+// A plan by itself answers no number.
 export const NUMBERS_GIVEN = {
   1: [0, 1, 2, 3, 4, 5, 6, 7, 8, 11],
   2: [0, 1, 2, 3, 4, 5, 6, 7, 8, 11],
@@ -25,7 +27,7 @@ export const NUMBERS_GIVEN = {
   14: [0, 7, 8],
 };
 
-const CASES = { ...casesOfSmoothing, ...casesOfOutputs, ...casesOfRecords };
+const CASES = { ...casesOfSmoothing, ...casesOfOutputs, ...casesOfRecords, ...casesOfPlans };
 
 // The cases of a call: a note and the call's words.
 export function casesOf(call) {

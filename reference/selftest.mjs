@@ -5,8 +5,8 @@ import {
   seriesResults, weightAt,
 } from './smoothing.mjs';
 import {
-  asWhole, doublesIn, doublesPicture, doublesSeries, edit, planner, point, smoothPicture, smoothSeries,
-  summaryPicture, summarySeries, wholePicture, wholeSeries,
+  asWhole, doublesIn, doublesPicture, doublesSeries, edit, planByItself, planner, point, smoothPicture,
+  smoothSeries, summaryPicture, summarySeries, wholePicture, wholeSeries,
 } from './calls.mjs';
 import { readRecord, recordLength, report, samplesIn, writeRecord } from './record.mjs';
 import { bitsOf, bytesOfWords, callWords, linesFor, wordsOfBytes } from './stream.mjs';
@@ -125,6 +125,25 @@ function otherExamples() {
   same('bound refused', smoothed(large, [1], 536_870_912).number, 6);
 }
 
+function planExamples() {
+  const examples = [
+    [plan(1, 2, 1, 8), 16_777_216, 16],
+    [plan(1, 1, 0, 2), 9, 2],
+    [plan(1, 2, 2, 1), 0, 0],
+    [plan(1023, 255, 254, 2), 272_998_935_049, 2_048],
+    [plan(1023, 255, 254, 3), 0, 3_072],
+    [plan(0, 98, 0, 8), 8_507_630_225_817_856, 0],
+    [plan(0, 99, 0, 8), 0, 0],
+    [plan(1, 80, 8, 8), 0, 16],
+    [plan(1, 2, 1, 0), 0, 0],
+    [plan(1, 2, 1, 2n ** 64n - 1n), 0, 0],
+  ];
+  for (const [chosen, divisor, reach] of examples) {
+    const own = planByItself({ plan: chosen });
+    same(`plan ${text(Object.values(chosen))}`, [own.divisor, own.reach], [divisor, reach]);
+  }
+}
+
 const JOB = bytesOfHex(
   '01 0002 0001 02 0001 02 03 0001 01 04 0001 01 05 0004 00000008 06 000C 00000008 00000000 00000000');
 
@@ -164,6 +183,8 @@ function kernelFacts(chosen) {
   same('kernel sum', sum(kernel), divisorOf(chosen));
   same('kernel is symmetric', kernel, kernel.slice().reverse());
   holds('taps reach as far as the reach', kernel.every((tap, at) => (tap > 0) === (Math.abs(at - centre) <= reach)));
+  const own = planByItself({ plan: chosen });
+  same('plan by itself', [own.divisor, own.reach], [sum(kernel), centre - kernel.findIndex((tap) => tap > 0)]);
 }
 
 function onePassAtATime(chosen, samples) {
@@ -328,6 +349,7 @@ function streamFacts() {
   same('line', linesFor(words), ['0 0 32 24 8 0 0 0']);
   same('refused line', linesFor(callWords(1, { ...args, bound: 7n })), ['11 0 1 -1 2 3 3 3']);
   same('bytes', linesFor(wordsOfBytes(bytesOfWords([...words, ...words]))), new Array(2).fill('0 0 32 24 8 0 0 0'));
+  same('line of a plan', linesFor(callWords(100, { plan: plan(1, 2, 1, 8) })), ['16777216 16']);
   same('first bytes', bytesOfWords([-2n]), [255, 255, 255, 255, 255, 255, 255, 254]);
   same('slice too long', linesFor([...words, 13n, 131_073n]), ['0 0 32 24 8 0 0 0', 'stop']);
   same('negative length', linesFor([13n, -1n]), ['stop']);
@@ -340,6 +362,7 @@ function streamFacts() {
 
 seriesExamples();
 otherExamples();
+planExamples();
 jobExample();
 extensionFacts();
 chosenFacts();

@@ -74,6 +74,11 @@ export const CALLS = {
     name: 'write-record', run: writeRecord,
     takes: { ...FIELDS, samples: 'i32s', record: 'u8s' }, prints: ['number', 'position', 'record'],
   },
+  // Later calls of the page go on from 15, so what else the library has begins here.
+  100: {
+    name: 'plan', run: calls.planByItself,
+    takes: { plan: 'plan' }, prints: ['divisor', 'reach'],
+  },
 };
 
 // Numbers and slices from words. A word too wide for its type is taken modulo that width.

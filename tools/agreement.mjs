@@ -114,6 +114,10 @@ function planner({ sigma, passes, inner }, out) {
   return outcomeIs(`planFor ${sigma} ${passes} ${inner}`, out, { radius: out.radius, edge: out.edge });
 }
 
+function ofPlan(definition, name) {
+  return ({ plan }, out) => `${definition} ${planOf(plan)} ≡ ${out[name]}`;
+}
+
 function doublesIn({ bound, doubles, samples }, out) {
   return outcomeIs(`doublesIn ${bound} ${floats(doubles)} ${wholes(samples)}`, out, { cells: wholes(out.samples) });
 }
@@ -177,6 +181,8 @@ const EQUATIONS = [
   [13, programOfRecord, 'program'],
   [1, programOfSeries, 'program'],
   [14, writeRecord],
+  [100, ofPlan('planDivisor', 'divisor'), 'divisor'],
+  [100, ofPlan('planReach', 'reach'), 'reach'],
 ];
 
 // The crate of equations. Every definition is opened to the prover.
@@ -189,7 +195,7 @@ const OPENED = {
   'Rattle.meaning.specs.Kernel': 'tap passAt kernel width reach tapSum divisor',
   'Rattle.meaning.specs.Smoothing': 'listOf convolved result results weight near',
   'Rattle.meaning.specs.Picture': 'pixel grid picture',
-  'Rattle.meaning.specs.Refusals': 'firstOf firstWhere rowAt some planRows sizeRows ifDone',
+  'Rattle.meaning.specs.Refusals': 'firstOf firstWhere rowAt some planRows sizeRows ifDone planDivisor planReach',
   'Rattle.meaning.specs.Values':
     'nearest ratio takes doubleRows doublesIn outputRows converted lowestIn highestIn summary',
   'Rattle.meaning.specs.Calls': 'smoothRows smoothed gained editRows countWhere changed editSeries pointRows point',

@@ -1,6 +1,7 @@
 // Runs test vectors through the public calls: a stream of words in, a line a call out.
 mod input;
 mod output;
+mod plans;
 mod smoothing;
 
 // A longer slice ends the stream.
@@ -29,6 +30,7 @@ fn one_call(samples: &mut [i32], results: &mut [i64], work: &mut [i64]) -> bool 
     let mut open = true;
     match input::word(&mut open) {
         1 => smoothing::smooth_series(&mut open, samples, results, work),
+        100 => plans::divisor_and_reach(&mut open),
         _ => {
             open = false;
         }

@@ -14,8 +14,13 @@ const MODULUS: u64 = 2147483647;
 
 // The first two words of a line.
 pub fn answer(answer: Answer) {
-    io::print_decimal(STDOUT_FILENO, answer.number);
+    first(answer.number);
     number(answer.position as u64);
+}
+
+// The first word of a line has no space before it.
+pub fn first(n: u64) {
+    io::print_decimal(STDOUT_FILENO, n);
 }
 
 pub fn number(n: u64) {
