@@ -1,6 +1,7 @@
 -- Document 01's bounds as it lists them. A call is done exactly where they hold: that the rows of Refusals say the same is proved, not defined.
 --   AllowedPlan r b a K                 the bounds of a plan (r, b, a, K)
 --   AllowedSeries r b a K M f nr nw     those of smoothing the samples f under it and bound M, with nr results and nw cells of work
+--   FirstAbove M f i                    sample i is the first of f with size above M
 use Prim.Native.Nat.{ℕ, _*_, _≤_, _<_}
 use mathlib.Core.Path.{_≡_}
 use mathlib.Core.List.{List}
@@ -24,3 +25,8 @@ pub record AllowedSeries (r b a K M : ℕ) (f : List ℤ) (nr nw : ℕ) : Type 0
   pub results : nr ≡ length f
   pub work : nw ≡ length f
   pub samples : (i : ℕ) → i < length f → natAbs (at f i) ≤ M
+
+pub record FirstAbove (M : ℕ) (f : List ℤ) (i : ℕ) : Type 0 where
+  pub within : i < length f
+  pub above : M < natAbs (at f i)
+  pub before : (j : ℕ) → j < i → natAbs (at f j) ≤ M

@@ -1,12 +1,14 @@
 -- Smoothing a series. Every theorem is of `series::smooth_series` by its own contract, for all inputs: that it ends is the language's.
+--   Call               what a call was given, answered and left; its rows, and the bounds it is Allowed by
 --   lowest-number      demand 1: the number is 0, or that of a row that applies, and then the lowest of those
 --   done-exactly       the number is 0 exactly where no row applies
+--   done-allowed, allowed-done       and exactly where the bounds of document 01 hold
+--   position-first, position-other   at 11 the position is that of the first sample above the bound, else 0
 --   refused-unchanged  demand 1: a refused call leaves every cell as it was
---   done-allowed, allowed-done   the number is 0 exactly where the bounds of document 01 hold
 --   done-results       demand 2: the results of a call that is done are the convolution of the extension with the K-fold kernel
---   done-left          such a call answers position 0 and leaves zeros in work
+--   done-left          such a call leaves zeros in work
 --   kernel-over        the K-fold kernel's sum is D^K, with D = (2r+1)b + 2a
---   one-outcome        two outcomes that the contract allows are the same
+--   one-outcome        two outcomes that the contract allows are the same call
 use Prim.Native.Nat.{ℕ, _+_, _*_, _^_, _≤_, _<_}
 use mathlib.Core.Path.{_≡_, sym, ap, _∙_}
 use mathlib.Core.List.{List}
@@ -23,12 +25,12 @@ use Rattle.meaning.specs.Smoothing.{convolved, result, results}
 use Rattle.meaning.specs.Refusals as meant
 use Rattle.meaning.specs.Refusals.{Row, firstOf, rowAt, planRows, sizeRows, seriesOf, zeros}
 use Rattle.meaning.specs.Calls.{smoothRows, smoothed}
-use Rattle.meaning.specs.Bounds.{AllowedSeries}
+use Rattle.meaning.specs.Bounds.{AllowedSeries, FirstAbove}
 use Rattle.theory.specs.Convolution.{kernel-sum}
 use Rattle.theory.specs.Stages.{divisor-plan}
 use Rattle.theory.specs.Passes.{length-results, at-results}
 use Rattle.theory.specs.Refusals.{Rising, Applies, first-applies, first-lowest, done-none, none-done, ifDone-done, ifDone-refused}
-use Rattle.theory.specs.Accepted.{series-allowed, allowed-series}
+use Rattle.theory.specs.Accepted.{series-allowed, allowed-series, series-position, series-no-position}
 use Rattle.plan.specs.declared.Plan.{Plan}
 use Rattle.plan.specs.declared.Answer.{Answer}
 use Rattle.plan.specs.Told.{stagesOf, answerOf}
@@ -87,6 +89,12 @@ module _ (κs : Lfts 3) (a : Dens κs kinds.ps) (r : resT kinds.r κs .Denot) (s
     pub done-exactly : (number ≡ 0 → (n : ℕ) → Applies n (rows call) → ⊥) × (((n : ℕ) → Applies n (rows call) → ⊥) → number ≡ 0)
     done-exactly = rw number-is (λ e n k. done-none (rows call) (rising call) e k, none-done (rows call))
 
+    pub position-first : number ≡ 11 → FirstAbove (call .bound) (call .samples) (call .answer .position)
+    position-first e = series-position (call .plan .radius) (call .plan .inner) (call .plan .edge) (call .plan .passes) (call .bound) (call .samples) (length (call .results)) (length (call .work)) answer-is e
+
+    pub position-other : (number ≡ 11 → ⊥) → call .answer .position ≡ 0
+    position-other h = series-no-position (call .plan .radius) (call .plan .inner) (call .plan .edge) (call .plan .passes) (call .bound) (call .samples) (length (call .results)) (length (call .work)) answer-is h
+
     pub refused-unchanged : (number ≡ 0 → ⊥) → (call .resultsLeft ≡ call .results) × (call .workLeft ≡ call .work)
     unfolding smoothed
     refused-unchanged n =
@@ -109,9 +117,9 @@ module _ (κs : Lfts 3) (a : Dens κs kinds.ps) (r : resT kinds.r κs .Denot) (s
       unfolding convolved result
       done-results = rw whole (length-results fold (stagesOf (call .plan)) (call .samples), λ n l. at-results fold (stagesOf (call .plan)) (call .samples) n l)
 
-      pub done-left : (call .answer .position ≡ 0) × (call .workLeft ≡ zeros (call .work))
+      pub done-left : call .workLeft ≡ zeros (call .work)
       unfolding smoothed
-      done-left = (ap (λ (x : meant.Answer). x .position) (answer-is ∙ allowed-series _ _ _ _ _ _ _ _ (done-allowed e)), h .work ∙ ifDone-done _ _ _ (sym number-is ∙ e))
+      done-left = h .work ∙ ifDone-done _ _ _ (sym number-is ∙ e)
 
 pub kernel-over : (p : Plan) → sumWithin (width (stagesOf p)) (kernel (stagesOf p)) ≡ pos (((2 * p .radius + 1) * p .inner + 2 * p .edge) ^ p .passes)
 kernel-over p = kernel-sum (stagesOf p) ∙ ap pos (divisor-plan (p .radius) (p .inner) (p .edge) (p .passes))

@@ -21,7 +21,9 @@ use Rattle.theory.specs.Lists.{sized}
 use Rattle.theory.specs.Stages.{inner-replicate, divisor-cons, divisor-part, replicate-part}
 use Rattle.theory.specs.Passes.{length-results, results-none, results-cons}
 use Rattle.theory.specs.Sizes.{results-size}
-use Rattle.theory.specs.Refusals.{refused-first, done-rest, rowAt-ext, no-differs, common-rising, ifDone-done, ifDone-refused}
+use Rattle.theory.specs.Refusals.{refused-first, done-rest, common-rising, ifDone-done, ifDone-refused}
+use Rattle.theory.specs.Places.{rowAt-ext}
+use Rattle.theory.specs.Tests.{no-differs}
 use Rattle.theory.specs.Accepted.{series-allowed}
 use Rattle.plan.specs.declared.Plan.{Plan}
 use Rattle.plan.specs.Told.{stageOf, stagesOf}

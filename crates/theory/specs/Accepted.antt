@@ -1,21 +1,26 @@
 -- The rows of the table of numbers say the bounds: a call is done exactly where they hold.
--- Laws: plan-rows (rows 1 to 4 of K equal stages, by the plan's numbers), plan-allowed, allowed-plan; series-allowed, allowed-series;
+-- Laws: plan-rows (rows 1 to 4 of K equal stages, by the plan's numbers), plan-allowed, allowed-plan; series-allowed, allowed-series, series-position, series-no-position;
 -- planDivisor-done, planDivisor-large, planDivisor-refused; planReach-done, planReach-refused (a plan's own numbers, and 0 where there are none).
 use mathlib.Core.Path.{_≡_, refl, sym, _∙_, ap}
-use mathlib.Core.Bool.{Bool, true, _||_}
+use mathlib.Core.Logic.{_⊎_, inl, inr}
+use mathlib.Core.Bool.{Bool, true, false, _||_}
 use mathlib.Core.List.{List, [], _∷_, _++_}
 use Prim.Native.Nat.{ℕ, zero, suc, _*_, _≤_, _<_}
+use native.Mathlib.Decide.{ℕ-discrete}
 use native.Mathlib.Omega.{arith}
 use lib.Dec.{leb, ltb}
 use lib.ListN.{length, replicate, length-replicate}
 use lib.IntN.{ℤ}
-use borrow.Author.Tests.{ltb-false, leb-false, le-ltb, lt-ltb, lt-leb}
+use borrow.Author.Tests.{ltb-true, ltb-false, leb-false, le-ltb, lt-ltb, lt-leb}
 use Rattle.meaning.specs.Limits.{least, maxPasses, maxRadius, maxInner, maxLength, maxResult}
+use Rattle.meaning.specs.Extension.{at}
 use Rattle.meaning.specs.Kernel.{Stage, plan, reach, divisor}
-use Rattle.meaning.specs.Refusals.{Answer, Row, _when_, firstOf, rowAt, some, outside, differs, seriesOf, planRows, sizeRows, planDivisor, planReach}
+use Rattle.meaning.specs.Refusals.{Answer, Row, _when_, firstOf, rowAt, some, outside, differs, above, seriesOf, planRows, sizeRows, planDivisor, planReach}
 use Rattle.meaning.specs.Calls.{sampleRow, smoothRows}
-use Rattle.meaning.specs.Bounds.{AllowedPlan, AllowedSeries}
-use Rattle.theory.specs.Refusals.{done, Off, Rising, first-on, done-off, off-done, refused-first, done-rest, off-append, append-off, rowAt-off, rowAt-none, some-one, some-replicate, or-no, no-or, outside-no, no-outside, differs-no, no-differs, plan-rising, ifDone-done, ifDone-refused}
+use Rattle.meaning.specs.Bounds.{AllowedPlan, AllowedSeries, FirstAbove}
+use Rattle.theory.specs.Refusals.{done, Off, Rising, Plain, first-plain, first-on, done-off, off-done, refused-first, done-rest, off-append, append-off, plan-rising, common-rising, ifDone-done, ifDone-refused}
+use Rattle.theory.specs.Places.{rowAt-answer, rowAt-off, rowAt-none}
+use Rattle.theory.specs.Tests.{some-one, some-replicate, or-no, no-or, outside-no, no-outside, differs-no, no-differs}
 
 some-stage : (t : Stage → Bool) (K : ℕ) (s : Stage) → some (some t) (replicate (suc K) s ∷ []) ≡ t s
 some-stage t K s = some-one (some t) (replicate (suc K) s) ∙ some-replicate t (suc K) s (omega arith)
@@ -87,6 +92,46 @@ module _ (r b a : ℕ) where
           let size : Off shared = (no-outside (ok .bound .0) (ok .bound .1), (le-ltb _ _ (ok .product), (no-outside (ok .count .0) (ok .count .1), (lengths, tt)))) in
           let samples : Off (sampleRow M f (λ i. true) ∷ []) = (rowAt-off 11 (length f) (λ i l. le-ltb _ _ (ok .samples i l)), tt) in
           off-done rows (off-append (planRows (plan r b a K ∷ []) ++ shared) _ (off-append (planRows (plan r b a K ∷ [])) shared plans size) samples)
+
+      common-plain : Plain 8 (planRows (plan r b a K ∷ []) ++ shared)
+      unfolding planRows sizeRows
+      common-plain = tt
+
+      -- the position of an answer x
+      abbrev Placed : Answer → Type 0
+      Placed x = ((x .number ≡ 11 → ⊥) × (x .position ≡ 0)) ⊎ ((x .number ≡ 11) × FirstAbove M f (x .position))
+
+      placed : {x : Answer} → x ≡ firstOf rows → Placed x
+      unfolding smoothRows
+      placed {x} e = go (ℕ-discrete (firstOf (planRows (plan r b a K ∷ []) ++ shared) .number) 0)
+        where
+          alone : (x ≡ done) ⊎ ((x .number ≡ 11) × (x .position < length f) × (above M (at f (x .position)) ≡ true) × ((j : ℕ) → j < x .position → above M (at f j) ≡ false)) → Placed x
+          alone (inl d) = let z : x .number ≡ 0 = ap (λ (y : Answer). y .number) d in inl (λ n. omega arith, ap (λ (y : Answer). y .position) d)
+          alone (inr (n, l, t, h)) = inr (n, record { within = l; above = ltb-true _ _ t; before = λ j k. ltb-false _ _ (h j k) })
+
+          go : Dec (firstOf (planRows (plan r b a K ∷ []) ++ shared) .number ≡ 0) → Placed x
+          go (yes z) = alone (rowAt-answer 11 (length f) _ (e ∙ sym (done-rest (planRows (plan r b a K ∷ []) ++ shared) _ (common-rising (seriesOf (plan r b a K) (length f)) M wrong) refl z refl)))
+          go (no n) =
+              let same = e ∙ sym (refused-first _ _ refl n) in
+              let (p, l) = first-plain 8 _ common-plain in
+              let few : x .number ≤ 8 = rw same l in
+              inl (λ h. omega arith, ap (λ (y : Answer). y .position) same ∙ p)
+
+      -- at 11 the position is that of the first sample above M, else 0
+      module _ {x : Answer} (e : x ≡ firstOf rows) where
+        pub series-position : x .number ≡ 11 → FirstAbove M f (x .position)
+        series-position n = go (placed e)
+          where
+            go : Placed x → FirstAbove M f (x .position)
+            go (inl (h, p)) = absurd (h n)
+            go (inr (h, p)) = p
+
+        pub series-no-position : (x .number ≡ 11 → ⊥) → x .position ≡ 0
+        series-no-position n = go (placed e)
+          where
+            go : Placed x → x .position ≡ 0
+            go (inl (h, p)) = p
+            go (inr (h, p)) = absurd (n h)
 
     -- ---- a plan's own numbers
     refused : (AllowedPlan r b a K → ⊥) → firstOf (planRows (plan r b a K ∷ [])) .number ≡ 0 → ⊥

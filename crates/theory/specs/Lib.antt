@@ -16,6 +16,8 @@
 --   Images       a weight as strided sums of taps
 --   Picture      rows first or columns first
 --   Refusals     which row answers, and what an answer of 0 says
+--   Places       the first place where a test is true
+--   Tests        tests that fail, and why
 --   Accepted     a call is done exactly where the bounds hold
 -- A law over an index map φ takes `F : Folding φ`, and where it speaks of reach `C : Nearness φ`: for document 01, half-sample and half-sample-near.
 pub mod Folding
@@ -35,4 +37,6 @@ pub mod Local
 pub mod Images
 pub mod Picture
 pub mod Refusals
+pub mod Places
+pub mod Tests
 pub mod Accepted

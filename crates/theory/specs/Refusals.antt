@@ -2,23 +2,21 @@
 --   Rising rows      the numbers rise from row to row, from above 0; of rows that are written down, tt
 --   Applies n rows   a row with number n applies
 --   Off rows         no row applies
+--   Plain m rows     every row has position 0 and a number up to m; of rows that are written down, tt
 --   done             the answer 0 with position 0
--- Laws: first-on (the first row applies); first-applies, first-lowest (the answer is that of a row that applies, and of the lowest);
+-- Laws: first-on (the first row applies); first-applies, first-lowest (the answer is that of a row that applies, and of the lowest); first-plain;
 -- done-off, off-done, done-none, none-done (it is 0 exactly where none applies); off-append, append-off; refused-first, done-rest (rows in two parts);
--- firstWhere-ext, firstWhere-none, firstWhere-is, firstWhere-before; none-next; rowAt-ext, rowAt-on, rowAt-off, rowAt-none;
--- some-one, some-replicate; or-no, no-or, outside-no, no-outside, differs-no, no-differs (a test that fails, and why it does);
 -- ifDone-done, ifDone-refused; plan-rising, common-rising.
 use mathlib.Core.Path.{_≡_, refl, sym, _∙_, ap}
-use mathlib.Core.Bool.{Bool, true, false, cond, not, _&&_, _||_, true≢false, or-false}
+use mathlib.Core.Bool.{Bool, true, false, cond, _&&_, true≢false}
 use mathlib.Core.List.{List, [], _∷_, _++_}
-use Prim.Native.Nat.{ℕ, zero, suc, _+_, _≤_, _<_}
-use native.Mathlib.Decide.{decLt, ℕ-discrete}
+use Prim.Native.Nat.{ℕ, _+_, _≤_, _<_}
+use native.Mathlib.Decide.{ℕ-discrete}
 use native.Mathlib.Omega.{arith}
-use lib.Dec.{T, ltb, eqb}
-use lib.ListN.{replicate}
-use borrow.Author.Tests.{ltb-true, ltb-false, le-ltb, lt-ltb, eqb-true, eq-eqb, ne-eqb}
+use lib.Dec.{T, leb, ltb, eqb}
+use borrow.Author.Tests.{leb-true, ltb-true, eqb-true, eq-eqb, ne-eqb}
 use Rattle.meaning.specs.Kernel.{Stage}
-use Rattle.meaning.specs.Refusals.{Answer, Row, firstOf, firstWhere, rowAt, some, outside, differs, Shape, planRows, sizeRows, commonRows, ifDone}
+use Rattle.meaning.specs.Refusals.{Answer, Row, firstOf, Shape, planRows, sizeRows, commonRows, ifDone}
 
 abbrev pub done : Answer
 done = record { number = 0; position = 0 }
@@ -93,6 +91,25 @@ lowest-from m (row ∷ rows) {n} t (later k) =
 pub first-lowest : (rows : List Row) {n : ℕ} → Rising rows → Applies n rows → firstOf rows .number ≤ n
 first-lowest rows t k = lowest-from 0 rows t k .0
 
+-- ---- rows with position 0
+abbrev plains : ℕ → List Row → Bool
+plains m [] = true
+plains m (row ∷ rows) = eqb (row .answer .position) 0 && leb (row .answer .number) m && plains m rows
+
+abbrev pub Plain : ℕ → List Row → Type 0
+Plain m rows = T (plains m rows)
+
+pub first-plain : (m : ℕ) (rows : List Row) → Plain m rows → (firstOf rows .position ≡ 0) × (firstOf rows .number ≤ m)
+unfolding firstOf
+first-plain m [] t = (refl, omega arith)
+first-plain m (row ∷ rows) t = go (row .applies) (eqb (row .answer .position) 0) (leb (row .answer .number) m) refl refl t (first-plain m rows)
+  where
+    go : (b p n : Bool) → eqb (row .answer .position) 0 ≡ p → leb (row .answer .number) m ≡ n → T (p && n && plains m rows) → (Plain m rows → (firstOf rows .position ≡ 0) × (firstOf rows .number ≤ m)) → (cond b (row .answer) (firstOf rows) .position ≡ 0) × (cond b (row .answer) (firstOf rows) .number ≤ m)
+    go true true true e f t k = (eqb-true _ _ e, leb-true _ _ f)
+    go false true true e f t k = k t
+    go b true false e f t k = absurd t
+    go b false n e f t k = absurd t
+
 -- ---- done exactly where no row applies
 off-none : (rows : List Row) {n : ℕ} → Off rows → Applies n rows → ⊥
 off-none (row ∷ rows) h (here e k) = true≢false (sym k ∙ h .0)
@@ -134,96 +151,6 @@ refused-first (row ∷ rows) more {a} e n = go (row .applies) (λ f. refused-fir
 
 pub done-rest : (rows more : List Row) {a b : Answer} → Rising rows → a ≡ firstOf rows → a .number ≡ 0 → b ≡ firstOf more → b ≡ firstOf (rows ++ more)
 done-rest rows more {a} t e z f = f ∙ sym (off-skip rows more (done-off rows t (rw (← e) z)))
-
--- ---- the first place where a test is true
-pub firstWhere-ext : (N : ℕ) {t u : ℕ → Bool} → ((i : ℕ) → i < N → t i ≡ u i) → firstWhere N t ≡ firstWhere N u
-unfolding firstWhere
-firstWhere-ext zero e = refl
-firstWhere-ext (suc N) {t} {u} e = rw (e 0 (omega arith), firstWhere-ext N {t = λ i. t (suc i)} {u = λ i. u (suc i)} (λ i l. e (suc i) (omega arith)))
-
-pub firstWhere-none : (N : ℕ) {t : ℕ → Bool} → ((i : ℕ) → i < N → t i ≡ false) → firstWhere N t ≡ N
-unfolding firstWhere
-firstWhere-none zero e = refl
-firstWhere-none (suc N) {t} e = rw (e 0 (omega arith)) (ap suc (firstWhere-none N (λ i l. e (suc i) (omega arith))))
-
-pub firstWhere-is : (N i : ℕ) {t : ℕ → Bool} → i < N → t i ≡ true → ((j : ℕ) → j < i → t j ≡ false) → firstWhere N t ≡ i
-unfolding firstWhere
-firstWhere-is zero i l h e = absurd (omega arith)
-firstWhere-is (suc N) zero l h e = rw h
-firstWhere-is (suc N) (suc i) l h e = rw (e 0 (omega arith)) (ap suc (firstWhere-is N i (omega arith) h (λ j m. e (suc j) (omega arith))))
-
-pub firstWhere-before : (N i : ℕ) (t : ℕ → Bool) → i < firstWhere N t → t i ≡ false
-unfolding firstWhere
-firstWhere-before zero i t l = absurd (omega arith)
-firstWhere-before (suc N) i t l = go i (t 0) refl (λ j. firstWhere-before N j (λ i. t (suc i))) l
-  where
-    go : (i : ℕ) (b : Bool) → t 0 ≡ b → ((j : ℕ) → j < firstWhere N (λ i. t (suc i)) → t (suc j) ≡ false) → i < cond b 0 (suc (firstWhere N (λ i. t (suc i)))) → t i ≡ false
-    go i true h k l = absurd (omega arith)
-    go zero false h k l = h
-    go (suc i) false h k l = k i (omega arith)
-
--- a test that fails up to i, and at i
-pub none-next : {t : ℕ → Bool} {i : ℕ} → ((j : ℕ) → j < i → t j ≡ false) → t i ≡ false → (j : ℕ) → j < i + 1 → t j ≡ false
-none-next {t} {i} h e j l = go (decLt j i)
-  where
-    go : Dec (j < i) → t j ≡ false
-    go (yes m) = h j m
-    go (no m) = let same : j ≡ i = omega arith in rw same e
-
-module _ (n N : ℕ) where
-  pub rowAt-ext : {t u : ℕ → Bool} → ((i : ℕ) → i < N → t i ≡ u i) → rowAt n N t ≡ rowAt n N u
-  unfolding rowAt
-  rowAt-ext e = rw (firstWhere-ext N e)
-
-  pub rowAt-on : (i : ℕ) {t : ℕ → Bool} → i < N → t i ≡ true → ((j : ℕ) → j < i → t j ≡ false) → (rows : List Row) → firstOf (rowAt n N t ∷ rows) ≡ record { number = n; position = i }
-  unfolding rowAt firstOf
-  rowAt-on i {t} l h e rows = rw (firstWhere-is N i {t = t} l h e, lt-ltb i N l)
-
-  pub rowAt-off : {t : ℕ → Bool} → ((i : ℕ) → i < N → t i ≡ false) → rowAt n N t .applies ≡ false
-  unfolding rowAt
-  rowAt-off {t} e = rw (firstWhere-none N {t = t} e) (le-ltb N N (omega arith))
-
-  pub rowAt-none : (t : ℕ → Bool) → rowAt n N t .applies ≡ false → (i : ℕ) → i < N → t i ≡ false
-  unfolding rowAt
-  rowAt-none t e i l = firstWhere-before N i t (omega (arith, ltb-false (firstWhere N t) N e))
-
--- ---- tests
-pub or-no : (a b : Bool) → (a || b) ≡ false → (a ≡ false) × (b ≡ false)
-or-no false b e = (refl, e)
-or-no true b e = absurd (true≢false e)
-
-pub no-or : {a b : Bool} → a ≡ false → b ≡ false → (a || b) ≡ false
-no-or {a} {b} h k = rw (h, k)
-
-or-same : (b : Bool) → (b || b) ≡ b
-or-same true = refl
-or-same false = refl
-
-pub some-one : {A : Type 0} (t : A → Bool) (x : A) → some t (x ∷ []) ≡ t x
-unfolding some
-some-one t x = or-false (t x)
-
-pub some-replicate : {A : Type 0} (t : A → Bool) (n : ℕ) (x : A) → 0 < n → some t (replicate n x) ≡ t x
-unfolding some
-some-replicate t zero x l = absurd (omega arith)
-some-replicate t (suc zero) x l = or-false (t x)
-some-replicate t (suc (suc n)) x l = rw (some-replicate t (suc n) x (omega arith)) (or-same (t x))
-
-pub outside-no : (low high x : ℕ) → outside low high x ≡ false → (low ≤ x) × (x ≤ high)
-outside-no low high x e = let (a, b) = or-no (ltb x low) (ltb high x) e in (ltb-false x low a, ltb-false high x b)
-
-pub no-outside : {low high x : ℕ} → low ≤ x → x ≤ high → outside low high x ≡ false
-no-outside {low} {high} {x} h k = no-or (le-ltb x low h) (le-ltb high x k)
-
-pub differs-no : (n asked : ℕ) → differs n asked ≡ false → n ≡ asked
-differs-no n asked e = eqb-true n asked (not-not (eqb n asked) e)
-  where
-    not-not : (b : Bool) → not b ≡ false → b ≡ true
-    not-not true e = refl
-    not-not false e = absurd (true≢false e)
-
-pub no-differs : {n asked : ℕ} → n ≡ asked → differs n asked ≡ false
-no-differs {n} {asked} e = ap not (eq-eqb n asked e)
 
 -- ---- what a call leaves
 pub ifDone-done : {A : Type 0} (a : Answer) (new old : A) → a .number ≡ 0 → ifDone a new old ≡ new

@@ -13,7 +13,8 @@ use mir.Syntax.{w32}
 use mir.Facts.{toZ-ofZ}
 use Rattle.meaning.specs.Extension.{at}
 use Rattle.meaning.specs.Refusals.{above, within}
-use Rattle.theory.specs.Refusals.{none-next, rowAt-on, rowAt-off, off-done}
+use Rattle.theory.specs.Refusals.{off-done}
+use Rattle.theory.specs.Places.{none-next, rowAt-on, rowAt-off}
 use Rattle.plan.proofs.inner.sample_refusal.Statement.{statement}
 use Rattle.plan.proofs.inner.sample_refusal.Tie as tie
 

@@ -1,0 +1,83 @@
+-- The first place where a test is true, and the row that answers with it.
+-- Laws: firstWhere-ext, firstWhere-none, firstWhere-is, firstWhere-before, firstWhere-at; none-next (a loop's step);
+-- rowAt-ext, rowAt-on, rowAt-off, rowAt-none, rowAt-answer.
+use mathlib.Core.Path.{_≡_, refl, ap}
+use mathlib.Core.Logic.{_⊎_, inl, inr}
+use mathlib.Core.Bool.{Bool, true, false, cond}
+use mathlib.Core.List.{List, [], _∷_}
+use Prim.Native.Nat.{ℕ, zero, suc, _+_, _<_}
+use native.Mathlib.Decide.{decLt}
+use native.Mathlib.Omega.{arith}
+use lib.Dec.{ltb}
+use borrow.Author.Tests.{ltb-true, ltb-false, le-ltb, lt-ltb}
+use Rattle.meaning.specs.Refusals.{Answer, Row, firstOf, firstWhere, rowAt}
+use Rattle.theory.specs.Refusals.{done}
+
+pub firstWhere-ext : (N : ℕ) {t u : ℕ → Bool} → ((i : ℕ) → i < N → t i ≡ u i) → firstWhere N t ≡ firstWhere N u
+unfolding firstWhere
+firstWhere-ext zero e = refl
+firstWhere-ext (suc N) {t} {u} e = rw (e 0 (omega arith), firstWhere-ext N {t = λ i. t (suc i)} {u = λ i. u (suc i)} (λ i l. e (suc i) (omega arith)))
+
+pub firstWhere-none : (N : ℕ) {t : ℕ → Bool} → ((i : ℕ) → i < N → t i ≡ false) → firstWhere N t ≡ N
+unfolding firstWhere
+firstWhere-none zero e = refl
+firstWhere-none (suc N) {t} e = rw (e 0 (omega arith)) (ap suc (firstWhere-none N (λ i l. e (suc i) (omega arith))))
+
+pub firstWhere-is : (N i : ℕ) {t : ℕ → Bool} → i < N → t i ≡ true → ((j : ℕ) → j < i → t j ≡ false) → firstWhere N t ≡ i
+unfolding firstWhere
+firstWhere-is zero i l h e = absurd (omega arith)
+firstWhere-is (suc N) zero l h e = rw h
+firstWhere-is (suc N) (suc i) l h e = rw (e 0 (omega arith)) (ap suc (firstWhere-is N i (omega arith) h (λ j m. e (suc j) (omega arith))))
+
+pub firstWhere-before : (N i : ℕ) (t : ℕ → Bool) → i < firstWhere N t → t i ≡ false
+unfolding firstWhere
+firstWhere-before zero i t l = absurd (omega arith)
+firstWhere-before (suc N) i t l = go i (t 0) refl (λ j. firstWhere-before N j (λ i. t (suc i))) l
+  where
+    go : (i : ℕ) (b : Bool) → t 0 ≡ b → ((j : ℕ) → j < firstWhere N (λ i. t (suc i)) → t (suc j) ≡ false) → i < cond b 0 (suc (firstWhere N (λ i. t (suc i)))) → t i ≡ false
+    go i true h k l = absurd (omega arith)
+    go zero false h k l = h
+    go (suc i) false h k l = k i (omega arith)
+
+pub firstWhere-at : (N : ℕ) (t : ℕ → Bool) → firstWhere N t < N → t (firstWhere N t) ≡ true
+unfolding firstWhere
+firstWhere-at zero t l = absurd (omega arith)
+firstWhere-at (suc N) t l = go (t 0) refl (firstWhere-at N (λ i. t (suc i))) l
+  where
+    go : (b : Bool) → t 0 ≡ b → (firstWhere N (λ i. t (suc i)) < N → t (suc (firstWhere N (λ i. t (suc i)))) ≡ true) → cond b 0 (suc (firstWhere N (λ i. t (suc i)))) < suc N → t (cond b 0 (suc (firstWhere N (λ i. t (suc i))))) ≡ true
+    go true h k l = h
+    go false h k l = k (omega arith)
+
+-- a test that fails up to i, and at i
+pub none-next : {t : ℕ → Bool} {i : ℕ} → ((j : ℕ) → j < i → t j ≡ false) → t i ≡ false → (j : ℕ) → j < i + 1 → t j ≡ false
+none-next {t} {i} h e j l = go (decLt j i)
+  where
+    go : Dec (j < i) → t j ≡ false
+    go (yes m) = h j m
+    go (no m) = let same : j ≡ i = omega arith in rw same e
+
+module _ (n N : ℕ) where
+  pub rowAt-ext : {t u : ℕ → Bool} → ((i : ℕ) → i < N → t i ≡ u i) → rowAt n N t ≡ rowAt n N u
+  unfolding rowAt
+  rowAt-ext e = rw (firstWhere-ext N e)
+
+  pub rowAt-on : (i : ℕ) {t : ℕ → Bool} → i < N → t i ≡ true → ((j : ℕ) → j < i → t j ≡ false) → (rows : List Row) → firstOf (rowAt n N t ∷ rows) ≡ record { number = n; position = i }
+  unfolding rowAt firstOf
+  rowAt-on i {t} l h e rows = rw (firstWhere-is N i {t = t} l h e, lt-ltb i N l)
+
+  pub rowAt-off : {t : ℕ → Bool} → ((i : ℕ) → i < N → t i ≡ false) → rowAt n N t .applies ≡ false
+  unfolding rowAt
+  rowAt-off {t} e = rw (firstWhere-none N {t = t} e) (le-ltb N N (omega arith))
+
+  pub rowAt-none : (t : ℕ → Bool) → rowAt n N t .applies ≡ false → (i : ℕ) → i < N → t i ≡ false
+  unfolding rowAt
+  rowAt-none t e i l = firstWhere-before N i t (omega (arith, ltb-false (firstWhere N t) N e))
+
+  -- what the answer of that row alone is
+  pub rowAt-answer : (t : ℕ → Bool) {a : Answer} → a ≡ firstOf (rowAt n N t ∷ []) → (a ≡ done) ⊎ ((a .number ≡ n) × (a .position < N) × (t (a .position) ≡ true) × ((j : ℕ) → j < a .position → t j ≡ false))
+  unfolding rowAt firstOf
+  rowAt-answer t {a} e = go (ltb (firstWhere N t) N) refl e
+    where
+      go : (b : Bool) → ltb (firstWhere N t) N ≡ b → a ≡ cond b (record { number = n; position = firstWhere N t }) done → (a ≡ done) ⊎ ((a .number ≡ n) × (a .position < N) × (t (a .position) ≡ true) × ((j : ℕ) → j < a .position → t j ≡ false))
+      go true h e = inr (rw e (refl, ltb-true _ _ h, firstWhere-at N t (ltb-true _ _ h), λ j l. firstWhere-before N j t l))
+      go false h e = inl e

@@ -1,0 +1,48 @@
+-- Tests that fail, and why they do.
+-- Laws: or-no, no-or; some-one, some-replicate; outside-no, no-outside; differs-no, no-differs.
+use mathlib.Core.Path.{_≡_, refl, ap}
+use mathlib.Core.Bool.{Bool, true, false, not, _||_, true≢false, or-false}
+use mathlib.Core.List.{[], _∷_}
+use Prim.Native.Nat.{ℕ, zero, suc, _≤_, _<_}
+use native.Mathlib.Omega.{arith}
+use lib.Dec.{ltb, eqb}
+use lib.ListN.{replicate}
+use borrow.Author.Tests.{ltb-false, le-ltb, eqb-true, eq-eqb}
+use Rattle.meaning.specs.Refusals.{some, outside, differs}
+
+pub or-no : (a b : Bool) → (a || b) ≡ false → (a ≡ false) × (b ≡ false)
+or-no false b e = (refl, e)
+or-no true b e = absurd (true≢false e)
+
+pub no-or : {a b : Bool} → a ≡ false → b ≡ false → (a || b) ≡ false
+no-or {a} {b} h k = rw (h, k)
+
+or-same : (b : Bool) → (b || b) ≡ b
+or-same true = refl
+or-same false = refl
+
+pub some-one : {A : Type 0} (t : A → Bool) (x : A) → some t (x ∷ []) ≡ t x
+unfolding some
+some-one t x = or-false (t x)
+
+pub some-replicate : {A : Type 0} (t : A → Bool) (n : ℕ) (x : A) → 0 < n → some t (replicate n x) ≡ t x
+unfolding some
+some-replicate t zero x l = absurd (omega arith)
+some-replicate t (suc zero) x l = or-false (t x)
+some-replicate t (suc (suc n)) x l = rw (some-replicate t (suc n) x (omega arith)) (or-same (t x))
+
+pub outside-no : (low high x : ℕ) → outside low high x ≡ false → (low ≤ x) × (x ≤ high)
+outside-no low high x e = let (a, b) = or-no (ltb x low) (ltb high x) e in (ltb-false x low a, ltb-false high x b)
+
+pub no-outside : {low high x : ℕ} → low ≤ x → x ≤ high → outside low high x ≡ false
+no-outside {low} {high} {x} h k = no-or (le-ltb x low h) (le-ltb high x k)
+
+pub differs-no : (n asked : ℕ) → differs n asked ≡ false → n ≡ asked
+differs-no n asked e = eqb-true n asked (not-not (eqb n asked) e)
+  where
+    not-not : (b : Bool) → not b ≡ false → b ≡ true
+    not-not true e = refl
+    not-not false e = absurd (true≢false e)
+
+pub no-differs : {n asked : ℕ} → n ≡ asked → differs n asked ≡ false
+no-differs {n} {asked} e = ap not (eq-eqb n asked e)
