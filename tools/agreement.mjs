@@ -195,7 +195,7 @@ const OPENED = {
   'Rattle.meaning.specs.Kernel': 'tap passAt kernel width reach tapSum divisor',
   'Rattle.meaning.specs.Smoothing': 'listOf convolved result results weight near',
   'Rattle.meaning.specs.Picture': 'pixel grid picture',
-  'Rattle.meaning.specs.Refusals': 'firstOf firstWhere rowAt some planRows sizeRows ifDone planDivisor planReach',
+  'Rattle.meaning.specs.Refusals': 'firstOf firstWhere rowAt some planRows sizeRows ifDone ownRows planDivisor planReach',
   'Rattle.meaning.specs.Values':
     'nearest ratio takes doubleRows doublesIn outputRows converted lowestIn highestIn summary',
   'Rattle.meaning.specs.Calls': 'smoothRows smoothed gained editRows countWhere changed editSeries pointRows point',

@@ -14,7 +14,7 @@ use Rattle.meaning.specs.Extension.{emod, reflect, fold, ext}
 use Rattle.meaning.specs.Kernel.{Stage, plan, tap, passAt, kernel, width, reach, tapSum, divisor}
 use Rattle.meaning.specs.Smoothing.{listOf, convolved, result, results, weight, near}
 use Rattle.meaning.specs.Picture.{pixel, grid, picture}
-use Rattle.meaning.specs.Refusals.{Answer, firstOf, firstWhere, rowAt, some, planRows, sizeRows, commonRows, seriesOf, ifDone, zeros, planDivisor, planReach}
+use Rattle.meaning.specs.Refusals.{Answer, firstOf, firstWhere, rowAt, some, planRows, sizeRows, commonRows, seriesOf, ifDone, zeros, ownRows, planDivisor, planReach}
 use Rattle.meaning.specs.Values.{nearest, outputRows, converted, wholeSeries}
 use Rattle.meaning.specs.Calls.{smoothRows, smoothed, smoothSeries, smoothPicture, gained, editRows, countWhere, changed, editSeries}
 use Rattle.meaning.specs.Planner.{largest, radiusFor, edgeFor, planFor}
@@ -96,6 +96,7 @@ examples =
     ∷ reached (plan 1 1 0 2) 2
     ∷ reached (plan 1 2 1 8) 16
     ∷ reached (plan 1 2 2 8) 0
+    ∷ reached (plan 1023 255 254 3) 0
     ∷ divided (plan 1 2 2 1) 0
     ∷ divided (plan 1023 255 254 2) 272998935049
     ∷ divided (plan 1023 255 254 3) 0
@@ -108,9 +109,9 @@ data Every : List Example → Type 0 where
 
 examples-hold : Every examples
 unfolding examples sumWithin emod reflect fold ext tap passAt kernel width reach tapSum divisor listOf convolved result results weight near pixel grid picture
-    firstOf firstWhere rowAt some planRows sizeRows ifDone planDivisor planReach nearest outputRows converted smoothRows smoothed gained editRows countWhere changed editSeries
+    firstOf firstWhere rowAt some planRows sizeRows ifDone ownRows planDivisor planReach nearest outputRows converted smoothRows smoothed gained editRows countWhere changed editSeries
     largest radiusFor edgeFor planFor bytes number sampleAt begins reading readRecord text digits decimal firstLine resultLines report program
 examples-hold =
     refl and refl and refl and refl and refl and refl and refl
     and refl and refl and refl and refl and refl
-    and refl and refl and refl and refl and refl and refl and refl and refl and refl and refl and refl and refl and refl and refl and none
+    and refl and refl and refl and refl and refl and refl and refl and refl and refl and refl and refl and refl and refl and refl and refl and none

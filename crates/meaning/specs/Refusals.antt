@@ -2,6 +2,7 @@
 --   Answer             number and position
 --   Row                an answer, and whether it applies
 --   firstOf rows       the first answer that applies; 0, done, where none does
+--   Applies n rows     a row with number n applies
 --   n when b           row n, with position 0
 --   firstWhere N t     the first of 0 .. N - 1 where the test t is true; N where there is none
 --   rowAt n N t        row n, at the first of 0 .. N - 1 where t is true
@@ -15,10 +16,11 @@
 --   commonRows s M wrongLength   rows 1 to 8 of the shape s
 --   ifDone a new old   new where a is done, old where it is refused
 --   zeros w            zeros, as many as w has cells
---   planDivisor ss     the divisor of a plan that rows 1 to 4 let pass, and 6 under some bound; of any other 0
---   planReach ss       the reach of a plan that rows 1 to 4 let pass; of any other 0
+--   ownRows ss         the rows that apply to a plan under every bound
+--   planDivisor ss     its divisor, and planReach ss its reach, where none of those applies; else 0
 use Prim.Native.Nat.{ℕ, zero, suc, _*_}
-use mathlib.Core.Bool.{Bool, false, cond, not, _&&_, _||_}
+use mathlib.Core.Path.{_≡_}
+use mathlib.Core.Bool.{Bool, true, false, cond, not, _&&_, _||_}
 use mathlib.Core.List.{List, [], _∷_, _++_}
 use lib.Dec.{leb, ltb, eqb}
 use lib.ListN.{length, replicate}
@@ -38,6 +40,10 @@ pub record Row : Type 0 where
 unfoldable pub firstOf : List Row → Answer
 firstOf [] = record { number = 0; position = 0 }
 firstOf (row ∷ rows) = cond (row .applies) (row .answer) (firstOf rows)
+
+pub data Applies (n : ℕ) : List Row → Type 0 where
+  here : {row : Row} {rows : List Row} → row .answer .number ≡ n → row .applies ≡ true → Applies n (row ∷ rows)
+  later : {row : Row} {rows : List Row} → Applies n rows → Applies n (row ∷ rows)
 
 infix 3 _when_
 abbrev pub _when_ : ℕ → Bool → Row
@@ -115,9 +121,13 @@ abbrev pub zeros : List ℤ → List ℤ
 zeros w = replicate (length w) (pos 0)
 
 -- ---- a plan by itself
--- "any number answered besides these three, is 0 on refusal": the least bound is 1, so 6 asks the divisor itself
+-- what refuses it under every bound: the least is 1, so 6 asks the divisor itself
+unfoldable pub ownRows : List Stage → List Row
+ownRows ss = planRows (ss ∷ []) ++ (6 when ltb maxResult (divisor ss)) ∷ []
+
+-- "any number answered besides these three, is 0 on refusal"
 unfoldable pub planDivisor : List Stage → ℕ
-planDivisor ss = ifDone (firstOf (planRows (ss ∷ []) ++ (6 when ltb maxResult (divisor ss)) ∷ [])) (divisor ss) 0
+planDivisor ss = ifDone (firstOf (ownRows ss)) (divisor ss) 0
 
 unfoldable pub planReach : List Stage → ℕ
-planReach ss = ifDone (firstOf (planRows (ss ∷ []))) (reach ss) 0
+planReach ss = ifDone (firstOf (ownRows ss)) (reach ss) 0

@@ -1,7 +1,7 @@
 -- The words of this crate's contracts.
---   Told      the code's structs as the definitions have them
+--   Structs   the code's structs as the definitions have them
 --   Capped    products that cannot wrap
---   Own       a plan's own divisor and reach
-pub mod Told
+--   Tested    what the tests say of a plan
+pub mod Structs
 pub mod Capped
-pub mod Own
+pub mod Tested

@@ -9,7 +9,8 @@ ghost use Rattle.meaning.specs.Kernel.{tapSum, tapReach, divisor};
 ghost use Rattle.meaning.specs.Refusals as R;
 ghost use Rattle.meaning.specs.Refusals.{_when_};
 ghost use Rattle.meaning.specs.Calls as C;
-ghost use Rattle.plan.specs.Told.{stageOf, stagesOf, AllowedPlan, answerOf, plain};
+ghost use Rattle.plan.specs.Structs.{stageOf, stagesOf, answerOf, plain};
+ghost use Rattle.plan.specs.Tested.{Tested};
 ghost use Rattle.plan.specs.Capped.{capped};
 use crate::Answer;
 use crate::Plan;
@@ -67,7 +68,7 @@ pub fn plan_refusal(plan: Plan) -> u64
 
 // The sum of one pass's taps.
 fn tap_sum(plan: Plan) -> u64
-    requires { ⌜ AllowedPlan plan ⌝ }
+    requires { ⌜ Tested plan ⌝ }
     ensures { λ r. ⌜ r ≡ tapSum (stageOf plan) ⌝ }
 {
     (2 * plan.radius + 1) * plan.inner + 2 * plan.edge
@@ -75,7 +76,7 @@ fn tap_sum(plan: Plan) -> u64
 
 // How far a sample is felt after one pass.
 pub fn tap_reach(plan: Plan) -> u64
-    requires { ⌜ AllowedPlan plan ⌝ }
+    requires { ⌜ Tested plan ⌝ }
     ensures { λ r. ⌜ r ≡ tapReach (stageOf plan) ⌝ }
 {
     if plan.edge == 0 {
@@ -98,7 +99,7 @@ fn capped_times(x: u64, d: u64) -> u64
 
 // x times the divisor of an allowed plan, or above the largest result where that is.
 pub fn scaled(x: u64, plan: Plan) -> u64
-    requires { ⌜ AllowedPlan plan ⌝ }
+    requires { ⌜ Tested plan ⌝ }
     ensures { λ r. ⌜ capped r ≡ capped (x * divisor (stagesOf plan)) ⌝ }
 {
     let d = tap_sum(plan);

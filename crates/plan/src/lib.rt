@@ -2,7 +2,7 @@
 ghost use mathlib.Core.Path.{_≡_};
 ghost use Rattle.meaning.specs.Limits.{least, maxPasses, maxRadius, maxInner, maxBound, maxResult, maxLength, maxSide};
 ghost use Rattle.meaning.specs.Refusals.{planDivisor, planReach};
-ghost use Rattle.plan.specs.Told.{stagesOf};
+ghost use Rattle.plan.specs.Structs.{stagesOf};
 
 pub mod inner;
 
@@ -72,11 +72,11 @@ impl Plan {
         product
     }
 
-    // How far a sample is felt, K(r+1), or K·r where the edge weight is 0. Of a plan that is not accepted, 0.
+    // How far a sample is felt, K(r+1), or K·r where the edge weight is 0. Of a plan that is not accepted under any bound, 0.
     pub fn reach(self) -> u64
         ensures { λ n. ⌜ n ≡ planReach (stagesOf self) ⌝ }
     {
-        if inner::plan_refusal(self) != 0 {
+        if self.divisor() == 0 {
             return 0;
         }
         self.passes * inner::tap_reach(self)

@@ -13,7 +13,7 @@ use Rattle.meaning.specs.Limits.{maxResult}
 use Rattle.meaning.specs.Kernel.{divisor}
 use Rattle.theory.specs.Stages.{divisor-plan, reach-edged, reach-plain}
 use Rattle.theory.specs.Accepted.{planDivisor-done, planDivisor-large, planDivisor-refused, planReach-done, planReach-refused}
-use Rattle.plan.specs.Told.{stagesOf, AllowedPlan}
+use Rattle.plan.specs.Structs.{stagesOf, AllowedPlan}
 use Rattle.plan.proofs.Plan.new.Reads as new
 use Rattle.plan.proofs.Plan.new.Kinds as new-kinds
 use Rattle.plan.proofs.Plan.divisor.Reads as divisor-of

@@ -33,7 +33,7 @@ use Rattle.theory.specs.Refusals.{Rising, Applies, first-applies, first-lowest,
 use Rattle.theory.specs.Accepted.{series-allowed, allowed-series, series-position, series-no-position}
 use Rattle.plan.specs.declared.Plan.{Plan}
 use Rattle.plan.specs.declared.Answer.{Answer}
-use Rattle.plan.specs.Told.{stagesOf, answerOf}
+use Rattle.plan.specs.Structs.{stagesOf, answerOf}
 use Rattle.series.proofs.smooth_series.Reads as smooth-series
 use Rattle.series.proofs.smooth_series.Kinds as kinds
 

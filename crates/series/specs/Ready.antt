@@ -8,14 +8,15 @@ use mathlib.Core.Path.{_≡_}
 use mathlib.Core.List.{List}
 use lib.ListN.{length, replicate}
 use lib.IntN.{ℤ}
-use Rattle.meaning.specs.Limits.{maxResult, maxLength}
+use Rattle.meaning.specs.Limits.{maxResult}
 use Rattle.meaning.specs.Extension.{fold}
 use Rattle.meaning.specs.Kernel.{tapSum}
 use Rattle.meaning.specs.Smoothing.{results}
 use Rattle.meaning.specs.Bounds.{AllowedSeries}
 use Rattle.theory.specs.Lists.{Sized}
 use Rattle.plan.specs.declared.Plan.{Plan}
-use Rattle.plan.specs.Told.{stageOf, AllowedPlan}
+use Rattle.plan.specs.Structs.{stageOf, stagesOf}
+use Rattle.plan.specs.Tested.{Tested}
 
 pub record Summable (r : ℕ) (src : List ℤ) : Type 0 where
   pub some : 1 ≤ length src
@@ -24,9 +25,8 @@ pub record Summable (r : ℕ) (src : List ℤ) : Type 0 where
   pub room : (2 * r + 1) * largest ≤ maxResult
 
 pub record Passable (p : Plan) (src : List ℤ) (n : ℕ) : Type 0 where
-  pub allowed : AllowedPlan p
+  pub plan : Tested p
   pub some : 1 ≤ length src
-  pub few : length src ≤ maxLength
   pub same : n ≡ length src
   pub largest : ℕ
   pub sized : Sized largest src
@@ -37,4 +37,4 @@ after k p f = results fold (replicate k (stageOf p)) f
 
 pub record Ready (p : Plan) (f : List ℤ) (nd no : ℕ) : Type 0 where
   pub bound : ℕ
-  pub allowed : AllowedSeries (p .radius) (p .inner) (p .edge) (p .passes) bound f nd no
+  pub allowed : AllowedSeries (stagesOf p) bound f nd no

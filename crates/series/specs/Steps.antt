@@ -1,32 +1,32 @@
 -- The steps of a smoothing call, each over plain lists.
 -- Laws: test-refused, test-rest (the rows in two parts, as the code tests them); ready (what an answer of 0 leaves), swapped;
 -- passable (each pass has room), after-none, after-next; call-refused, call-done.
-use Prim.Native.Nat.{ℕ, suc, _*_, _-_, _≤_, _<_}
+use Prim.Native.Nat.{ℕ, suc, _*_, _-_, _<_}
 use mathlib.Core.Path.{_≡_, refl, sym, _∙_, ap}
 use mathlib.Core.Bool.{Bool, true, _||_, _&&_}
 use mathlib.Core.List.{List, [], _∷_, _++_}
-use native.Mathlib.Nat.{mul-le-mul-left, mul-comm, mul-assoc, le-trans}
+use native.Mathlib.Nat.{le-trans}
 use native.Mathlib.Omega.{arith}
 use lib.ListN.{length, replicate}
 use lib.IntN.{ℤ, pos}
 use borrow.Author.Tests.{le-leb, lt-ltb}
-use Rattle.meaning.specs.Limits.{maxResult}
 use Rattle.meaning.specs.Extension.{at, fold}
-use Rattle.meaning.specs.Kernel.{Stage, divisor, tapSum}
+use Rattle.meaning.specs.Kernel.{Stage, divisor}
 use Rattle.meaning.specs.Smoothing.{results, pass}
 use Rattle.meaning.specs.Refusals.{Answer, firstOf, differs, within, above, seriesOf, commonRows}
 use Rattle.meaning.specs.Calls.{sampleRow, smoothRows, smoothed, smoothSeries}
 use Rattle.theory.specs.HalfSample.{half-sample}
 use Rattle.theory.specs.Lists.{sized}
-use Rattle.theory.specs.Stages.{inner-replicate, divisor-cons, divisor-part, replicate-part}
+use Rattle.theory.specs.Stages.{room-replicate}
 use Rattle.theory.specs.Passes.{length-results, results-none, results-cons}
 use Rattle.theory.specs.Sizes.{results-size}
-use Rattle.theory.specs.Refusals.{refused-first, done-rest, common-rising, ifDone-done, ifDone-refused}
+use Rattle.theory.specs.Refusals.{refused-first, done-rest, common-numbered, ifDone-done, ifDone-refused}
 use Rattle.theory.specs.Places.{rowAt-ext}
 use Rattle.theory.specs.Tests.{no-differs}
 use Rattle.theory.specs.Accepted.{series-allowed}
 use Rattle.plan.specs.declared.Plan.{Plan}
-use Rattle.plan.specs.Told.{stageOf, stagesOf}
+use Rattle.plan.specs.Structs.{stageOf, stagesOf}
+use Rattle.plan.specs.Tested.{allowed-tested}
 use Rattle.series.specs.Contract.{Gives}
 use Rattle.series.specs.Ready.{Ready, Passable, after}
 
@@ -44,13 +44,11 @@ module _ (ss : List Stage) (M : ℕ) (f : List ℤ) (nr nw : ℕ) where
     test-refused h = rw rows-tested (refused-first _ _ common h)
 
     pub test-rest : a .number ≡ 0 → {b : Answer} → b ≡ firstOf (sampleRow M f (within 0 (length f)) ∷ []) → b ≡ firstOf (smoothRows (seriesOf ss (length f)) M f nr nw)
-    test-rest z g = rw rows-tested (done-rest _ _ (common-rising (seriesOf ss (length f)) M _) common z g)
+    test-rest z g = rw rows-tested (done-rest _ _ (common-numbered (seriesOf ss (length f)) M _) common z g)
 
 -- ---- the passes
 pub swapped : {p : Plan} {f : List ℤ} {nd no : ℕ} → Ready p f nd no → Ready p f no nd
-swapped h =
-    let a = h .allowed in
-    record { bound = h .bound; allowed = record { allowed = a .allowed; bound = a .bound; product = a .product; count = a .count; results = a .work; work = a .results; samples = a .samples } }
+swapped h = let a = h .allowed in record { bound = h .bound; allowed = record { common = a .common; results = a .work; work = a .results; samples = a .samples } }
 
 pub after-none : (p : Plan) (f : List ℤ) {dst : List ℤ} → dst ≡ f → dst ≡ after 0 p f
 after-none p f e = e ∙ sym (results-none half-sample f)
@@ -58,32 +56,24 @@ after-none p f e = e ∙ sym (results-none half-sample f)
 pub after-next : (p : Plan) (f : List ℤ) (k : ℕ) {src dst : List ℤ} → src ≡ after k p f → dst ≡ pass fold (stageOf p) src → dst ≡ after (suc k) p f
 after-next p f k s d = d ∙ ap (pass fold (stageOf p)) s ∙ sym (results-cons half-sample (stageOf p) (replicate k (stageOf p)) f)
 
-module _ {p : Plan} {f : List ℤ} {nd no : ℕ} (h : Ready p f nd no) where
-  room : {k : ℕ} → k < p .passes → h .bound * divisor (replicate k (stageOf p)) * tapSum (stageOf p) ≤ maxResult
-  room {k} l =
-      let s = stageOf p in
-      let more : divisor (replicate (suc k) s) ≤ divisor (replicate (p .passes) s) = rw (← replicate-part s l) (divisor-part (replicate (suc k) s) (inner-replicate (p .passes - suc k) s (h .allowed .allowed .inner .0))) in
-      rw (mul-assoc (h .bound) (divisor (replicate k s)) (tapSum s), mul-comm (divisor (replicate k s)) (tapSum s), ← divisor-cons s (replicate k s))
-      (le-trans (mul-le-mul-left (h .bound) more) (h .allowed .product))
-
-  pub passable : {k : ℕ} {src : List ℤ} {n : ℕ} → k < p .passes → src ≡ after k p f → n ≡ nd → Passable p src n
-  passable {k} {src} l e s =
-      let same : length src ≡ length f = ap length e ∙ length-results fold (replicate k (stageOf p)) f in
-      let a = h .allowed in
-      record {
-        allowed = a .allowed;
-        some = omega (arith, a .count);
-        few = omega (arith, a .count);
-        same = s ∙ a .results ∙ sym same;
-        largest = h .bound * divisor (replicate k (stageOf p));
-        sized = rw e (results-size fold (sized f (λ i l. record { bound = a .samples i l })) (replicate k (stageOf p)));
-        room = room l;
-      }
+pub passable : {p : Plan} {f : List ℤ} {nd no : ℕ} → Ready p f nd no → {k : ℕ} {src : List ℤ} {n : ℕ} → k < p .passes → src ≡ after k p f → n ≡ nd → Passable p src n
+passable {p} {f} h {k} {src} l e s =
+    let same : length src ≡ length f = ap length e ∙ length-results fold (replicate k (stageOf p)) f in
+    let a = h .allowed in
+    let plan = allowed-tested p (a .common .plan) in
+    record {
+      plan = plan;
+      some = omega (arith, a .common .count);
+      same = s ∙ a .results ∙ sym same;
+      largest = h .bound * divisor (replicate k (stageOf p));
+      sized = rw e (results-size fold (sized f (λ i l. record { bound = a .samples i l })) (replicate k (stageOf p)));
+      room = le-trans (room-replicate (h .bound) (stageOf p) (plan .inner .0) l) (a .common .product);
+    }
 
 -- ---- the two ends of a call whose test answered a
 module _ (p : Plan) (M : ℕ) (f r w : List ℤ) {a : Answer} (e : a ≡ firstOf (smoothRows (seriesOf (stagesOf p) (length f)) M f (length r) (length w))) where
   pub ready : a .number ≡ 0 → Ready p f (length r) (length w)
-  ready z = record { bound = M; allowed = series-allowed (p .radius) (p .inner) (p .edge) (p .passes) M f (length r) (length w) (sym (ap (λ (x : Answer). x .number) e) ∙ z) }
+  ready z = record { bound = M; allowed = series-allowed (stagesOf p) M f (length r) (length w) (sym (ap (λ (x : Answer). x .number) e) ∙ z) }
 
   pub call-refused : (a .number ≡ 0 → ⊥) → Gives (smoothSeries fold (stagesOf p) M f r w) a r w
   unfolding smoothed

@@ -23,7 +23,7 @@ use Rattle.theory.specs.Sizes.{ext-size}
 use Rattle.theory.specs.Passes.{at-pass}
 use Rattle.theory.specs.Slide.{window, window-grow, window-slide, window-size, passAt-window, Step, step-size}
 use Rattle.plan.specs.declared.Plan.{Plan}
-use Rattle.plan.specs.Told.{stageOf}
+use Rattle.plan.specs.Structs.{stageOf}
 use Rattle.series.specs.Ready.{Summable, Passable}
 
 -- ---- the first window
@@ -64,12 +64,12 @@ module _ {p : Plan} {f : List ℤ} {N : ℕ} (h : Passable p f N) where
   pub summable : Summable (p .radius) f
   unfolding tapSum
   summable =
-      let one = le-mul-of-pos-right (h .largest) (h .allowed .inner .0) in
-      let more = le-mul-of-pos-right (p .radius * h .largest) (h .allowed .inner .0) in
+      let one = le-mul-of-pos-right (h .largest) (h .plan .inner .0) in
+      let more = le-mul-of-pos-right (p .radius * h .largest) (h .plan .inner .0) in
       record { some = h .some; largest = h .largest; sized = h .sized; room = omega (arith, one, more) }
 
   step : Step (stageOf p) (ext fold f) (2 * maxResult)
-  step = step-size (stageOf p) (ext-size fold (h .sized)) (h .allowed .inner .0) (omega arith)
+  step = step-size (stageOf p) (ext-size fold (h .sized)) (h .plan .inner .0) (omega arith)
 
   module _ {n : ℕ} {b a w lo first hi : ℤ} (t : Turn p f n b a w lo first hi) where
     on : n + p .radius + 1 ≡ n + suc (p .radius)

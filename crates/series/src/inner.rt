@@ -8,7 +8,7 @@ ghost use mir.Val.{SFits};
 ghost use Rattle.meaning.specs.Extension.{fold, ext};
 ghost use Rattle.meaning.specs.Smoothing as S;
 ghost use Rattle.theory.specs.Slide.{window};
-ghost use Rattle.plan.specs.Told.{stageOf};
+ghost use Rattle.plan.specs.Structs.{stageOf};
 ghost use Rattle.series.specs.Ready.{Summable, Passable};
 use plan::Plan;
 

@@ -5,7 +5,7 @@ ghost use lib.ListN.{length};
 ghost use Rattle.meaning.specs.Extension.{fold};
 ghost use Rattle.meaning.specs.Refusals as R;
 ghost use Rattle.meaning.specs.Calls as C;
-ghost use Rattle.plan.specs.Told.{stagesOf, answerOf};
+ghost use Rattle.plan.specs.Structs.{stagesOf, answerOf};
 ghost use Rattle.series.specs.Ready.{Ready, after};
 ghost use Rattle.series.specs.Contract.{Gives};
 use plan::Answer;

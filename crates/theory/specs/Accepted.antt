@@ -1,6 +1,7 @@
 -- The rows of the table of numbers say the bounds: a call is done exactly where they hold.
--- Laws: plan-rows (rows 1 to 4 of K equal stages, by the plan's numbers), plan-allowed, allowed-plan; series-allowed, allowed-series, series-position, series-no-position;
--- planDivisor-done, planDivisor-large, planDivisor-refused; planReach-done, planReach-refused (a plan's own numbers, and 0 where there are none).
+-- Laws: plan-rows (rows 1 to 4 of K equal stages, by the plan's numbers); plan-allowed, allowed-plan (rows 1 to 4), stage-allowed, allowed-stages (of K equal stages);
+-- length-allowed, allowed-length (rows 1 to 8 of a series); series-allowed, allowed-series (smoothing one), series-position, series-no-position;
+-- divisor-allowed; accepted-divisor, accepted-reach, divisor-accepted, no-divisor, no-reach (a plan's own numbers).
 use mathlib.Core.Path.{_≡_, refl, sym, _∙_, ap}
 use mathlib.Core.Logic.{_⊎_, inl, inr}
 use mathlib.Core.Bool.{Bool, true, false, _||_}
@@ -11,155 +12,216 @@ use native.Mathlib.Omega.{arith}
 use lib.Dec.{leb, ltb}
 use lib.ListN.{length, replicate, length-replicate}
 use lib.IntN.{ℤ}
-use borrow.Author.Tests.{ltb-true, ltb-false, leb-false, le-ltb, lt-ltb, lt-leb}
+use borrow.Author.Tests.{ltb-true, ltb-false, leb-false, le-ltb, lt-leb}
 use Rattle.meaning.specs.Limits.{least, maxPasses, maxRadius, maxInner, maxLength, maxResult}
 use Rattle.meaning.specs.Extension.{at}
 use Rattle.meaning.specs.Kernel.{Stage, plan, reach, divisor}
-use Rattle.meaning.specs.Refusals.{Answer, Row, _when_, firstOf, rowAt, some, outside, differs, above, seriesOf, planRows, sizeRows, planDivisor, planReach}
+use Rattle.meaning.specs.Refusals.{Answer, Row, _when_, firstOf, rowAt, some, outside, differs, above, seriesOf, planRows, sizeRows, commonRows, ownRows, planDivisor, planReach}
 use Rattle.meaning.specs.Calls.{sampleRow, smoothRows}
-use Rattle.meaning.specs.Bounds.{AllowedPlan, AllowedSeries, FirstAbove}
-use Rattle.theory.specs.Refusals.{done, Off, Rising, Plain, first-plain, first-on, done-off, off-done, refused-first, done-rest, off-append, append-off, plan-rising, common-rising, ifDone-done, ifDone-refused}
-use Rattle.theory.specs.Places.{rowAt-answer, rowAt-off, rowAt-none}
+use Rattle.meaning.specs.Bounds.{AllowedStage, AllowedStages, AllowedPlan, AcceptedPlan, AllowedLength, AllowedSeries, FirstAbove}
+use Rattle.theory.specs.Stages.{PositiveInner, none, _and_, divisor-positive}
+use Rattle.theory.specs.Refusals.{done, Off, Numbered, Unplaced, done-off, off-done, first-unplaced, refused-first, done-rest, off-append, append-off, plan-numbered, common-numbered, ifDone-done, ifDone-refused}
+use Rattle.theory.specs.Places.{rowAt-off, rowAt-none, rowAt-answer}
 use Rattle.theory.specs.Tests.{some-one, some-replicate, or-no, no-or, outside-no, no-outside, differs-no, no-differs}
+
+number-of : {a b : Answer} → a ≡ b → a .number ≡ b .number
+number-of e = ap (λ (x : Answer). x .number) e
+
+-- ---- rows 1 to 4
+abbrev wide : Stage → Bool
+wide s = ltb maxRadius (s .radius)
+
+abbrev light : Stage → Bool
+light s = outside least maxInner (s .inner)
+
+abbrev steep : Stage → Bool
+steep s = leb (s .inner) (s .edge)
+
+from-tests : (ss : List Stage) → some wide ss ≡ false → some light ss ≡ false → some steep ss ≡ false → AllowedStages ss
+unfolding some
+from-tests [] h k l = tt
+from-tests (s ∷ ss) h k l =
+    let r = or-no (wide s) (some wide ss) h in
+    let b = or-no (light s) (some light ss) k in
+    let a = or-no (steep s) (some steep ss) l in
+    (record { radius = ltb-false _ _ (r .0); inner = outside-no _ _ _ (b .0); edge = leb-false _ _ (a .0) }, from-tests ss (r .1) (b .1) (a .1))
+
+to-tests : (ss : List Stage) → AllowedStages ss → (some wide ss ≡ false) × (some light ss ≡ false) × (some steep ss ≡ false)
+unfolding some
+to-tests [] ok = (refl, refl, refl)
+to-tests (s ∷ ss) ok =
+    let (h, k, l) = to-tests ss (ok .1) in
+    let a = ok .0 in
+    (no-or (le-ltb _ _ (a .radius)) h, no-or (no-outside (a .inner .0) (a .inner .1)) k, no-or (lt-leb _ _ (a .edge)) l)
+
+pub plan-allowed : (ss : List Stage) → Off (planRows (ss ∷ [])) → AllowedPlan ss
+unfolding planRows
+plan-allowed ss h = record {
+  passes = outside-no _ _ _ (sym (some-one (λ (ss : List Stage). outside least maxPasses (length ss)) ss) ∙ h .0);
+  stages = from-tests ss (sym (some-one (some wide) ss) ∙ h .1 .0) (sym (some-one (some light) ss) ∙ h .1 .1 .0) (sym (some-one (some steep) ss) ∙ h .1 .1 .1 .0);
+}
+
+pub allowed-plan : (ss : List Stage) → AllowedPlan ss → Off (planRows (ss ∷ []))
+unfolding planRows
+allowed-plan ss ok =
+    let (h, k, l) = to-tests ss (ok .stages) in (
+      some-one (λ (ss : List Stage). outside least maxPasses (length ss)) ss ∙ no-outside (ok .passes .0) (ok .passes .1),
+      (some-one (some wide) ss ∙ h, (some-one (some light) ss ∙ k, (some-one (some steep) ss ∙ l, tt))),
+    )
+
+-- ---- K equal stages
+pub stage-allowed : (K : ℕ) {s : Stage} → 0 < K → AllowedStages (replicate K s) → AllowedStage s
+stage-allowed zero l ok = absurd (omega arith)
+stage-allowed (suc K) l ok = ok .0
+
+pub allowed-stages : (K : ℕ) {s : Stage} → AllowedStage s → AllowedStages (replicate K s)
+allowed-stages zero ok = tt
+allowed-stages (suc K) ok = (ok, allowed-stages K ok)
 
 some-stage : (t : Stage → Bool) (K : ℕ) (s : Stage) → some (some t) (replicate (suc K) s ∷ []) ≡ t s
 some-stage t K s = some-one (some t) (replicate (suc K) s) ∙ some-replicate t (suc K) s (omega arith)
 
-module _ (r b a : ℕ) where
-  pub plan-rows : (K : ℕ) → firstOf (planRows (plan r b a K ∷ [])) ≡ firstOf ((1 when outside least maxPasses K) ∷ (2 when ltb maxRadius r) ∷ (3 when outside least maxInner b) ∷ (4 when leb b a) ∷ [])
-  unfolding planRows firstOf some
-  plan-rows zero = refl
-  plan-rows (suc K) =
-      let s : Stage = record { radius = r; inner = b; edge = a } in
-      rw (
-        some-one (λ (ss : List Stage). outside least maxPasses (length ss)) (replicate (suc K) s),
-        length-replicate (suc K) s,
-        some-stage (λ (s : Stage). ltb maxRadius (s .radius)) K s,
-        some-stage (λ (s : Stage). outside least maxInner (s .inner)) K s,
-        some-stage (λ (s : Stage). leb (s .inner) (s .edge)) K s,
-      )
+pub plan-rows : (r b a K : ℕ) → firstOf (planRows (plan r b a K ∷ [])) ≡ firstOf ((1 when outside least maxPasses K) ∷ (2 when ltb maxRadius r) ∷ (3 when outside least maxInner b) ∷ (4 when leb b a) ∷ [])
+unfolding planRows firstOf some
+plan-rows r b a zero = refl
+plan-rows r b a (suc K) =
+    let s : Stage = record { radius = r; inner = b; edge = a } in
+    rw (
+      some-one (λ (ss : List Stage). outside least maxPasses (length ss)) (replicate (suc K) s),
+      length-replicate (suc K) s,
+      some-stage wide K s,
+      some-stage light K s,
+      some-stage steep K s,
+    )
 
-  module _ (K : ℕ) where
-    pub plan-allowed : firstOf (planRows (plan r b a K ∷ [])) .number ≡ 0 → AllowedPlan r b a K
-    plan-allowed e =
-        let rows = done-off _ tt (sym (ap (λ (a : Answer). a .number) (plan-rows K)) ∙ e) in
-        record {
-          passes = outside-no _ _ _ (rows .0);
-          radius = ltb-false _ _ (rows .1 .0);
-          inner = outside-no _ _ _ (rows .1 .1 .0);
-          edge = leb-false _ _ (rows .1 .1 .1 .0);
-        }
+-- ---- rows 1 to 8 of a series
+module _ (ss : List Stage) (M N : ℕ) {wrong : Bool} where
+  pub length-allowed : Off (commonRows (seriesOf ss N) M wrong) → AllowedLength ss M N × (wrong ≡ false)
+  unfolding sizeRows
+  length-allowed h =
+      let (p, s) = append-off (planRows (ss ∷ [])) _ h in
+      (record { plan = plan-allowed ss p; bound = outside-no _ _ _ (s .0); product = ltb-false _ _ (s .1 .0); count = outside-no _ _ _ (s .1 .1 .0) }, s .1 .1 .1 .0)
 
-    pub allowed-plan : AllowedPlan r b a K → firstOf (planRows (plan r b a K ∷ [])) ≡ done
-    allowed-plan ok = plan-rows K ∙ off-done _ (no-outside (ok .passes .0) (ok .passes .1), (le-ltb _ _ (ok .radius), (no-outside (ok .inner .0) (ok .inner .1), (lt-leb _ _ (ok .edge), tt))))
+  pub allowed-length : AllowedLength ss M N → wrong ≡ false → Off (commonRows (seriesOf ss N) M wrong)
+  unfolding sizeRows
+  allowed-length ok e = off-append (planRows (ss ∷ [])) _ (allowed-plan ss (ok .plan)) (no-outside (ok .bound .0) (ok .bound .1), (le-ltb _ _ (ok .product), (no-outside (ok .count .0) (ok .count .1), (e, tt))))
 
-    module _ (M : ℕ) (f : List ℤ) (nr nw : ℕ) where
-      abbrev wrong : Bool
-      wrong = differs (length f) (length f) || differs nr (length f) || differs nw (length f)
+-- ---- smoothing a series
+module _ (ss : List Stage) (M : ℕ) (f : List ℤ) (nr nw : ℕ) where
+  abbrev wrong : Bool
+  wrong = differs (length f) (length f) || differs nr (length f) || differs nw (length f)
 
-      abbrev shared : List Row
-      shared = sizeRows M (M * divisor (plan r b a K)) (outside least maxLength (length f)) wrong
+  abbrev common : List Row
+  common = commonRows (seriesOf ss (length f)) M wrong
 
-      abbrev rows : List Row
-      rows = smoothRows (seriesOf (plan r b a K) (length f)) M f nr nw
+  abbrev rows : List Row
+  rows = smoothRows (seriesOf ss (length f)) M f nr nw
 
-      rows-rising : Rising rows
-      unfolding smoothRows planRows sizeRows rowAt
-      rows-rising = tt
+  rows-numbered : Numbered rows
+  unfolding smoothRows planRows sizeRows rowAt
+  rows-numbered = tt
 
-      pub series-allowed : firstOf rows .number ≡ 0 → AllowedSeries r b a K M f nr nw
-      unfolding smoothRows sizeRows
-      series-allowed e =
-          let all = append-off (planRows (plan r b a K ∷ []) ++ shared) (sampleRow M f (λ i. true) ∷ []) (done-off rows rows-rising e) in
-          let part = append-off (planRows (plan r b a K ∷ [])) shared (all .0) in
-          let size = part .1 in
-          let both = or-no (differs (length f) (length f) || differs nr (length f)) (differs nw (length f)) (size .1 .1 .1 .0) in
-          record {
-            allowed = plan-allowed (ap (λ (x : Answer). x .number) (off-done _ (part .0)));
-            bound = outside-no _ _ _ (size .0);
-            product = ltb-false _ _ (size .1 .0);
-            count = outside-no _ _ _ (size .1 .1 .0);
-            results = differs-no _ _ (or-no (differs (length f) (length f)) (differs nr (length f)) (both .0) .1);
-            work = differs-no _ _ (both .1);
-            samples = λ i l. ltb-false _ _ (rowAt-none 11 (length f) _ (all .1 .0) i l);
-          }
+  pub series-allowed : firstOf rows .number ≡ 0 → AllowedSeries ss M f nr nw
+  unfolding smoothRows
+  series-allowed e =
+      let (h, s) = append-off common (sampleRow M f (λ i. true) ∷ []) (done-off rows rows-numbered e) in
+      let (ok, w) = length-allowed ss M (length f) h in
+      let both = or-no (differs (length f) (length f) || differs nr (length f)) (differs nw (length f)) w in
+      record {
+        common = ok;
+        results = differs-no _ _ (or-no (differs (length f) (length f)) (differs nr (length f)) (both .0) .1);
+        work = differs-no _ _ (both .1);
+        samples = λ i l. ltb-false _ _ (rowAt-none 11 (length f) _ (s .0) i l);
+      }
 
-      pub allowed-series : AllowedSeries r b a K M f nr nw → firstOf rows ≡ done
-      unfolding smoothRows sizeRows
-      allowed-series ok =
-          let plans : Off (planRows (plan r b a K ∷ [])) = done-off _ (plan-rising _) (ap (λ (x : Answer). x .number) (allowed-plan (ok .allowed))) in
-          let lengths = no-or (no-or (no-differs {n = length f} refl) (no-differs (ok .results))) (no-differs (ok .work)) in
-          let size : Off shared = (no-outside (ok .bound .0) (ok .bound .1), (le-ltb _ _ (ok .product), (no-outside (ok .count .0) (ok .count .1), (lengths, tt)))) in
-          let samples : Off (sampleRow M f (λ i. true) ∷ []) = (rowAt-off 11 (length f) (λ i l. le-ltb _ _ (ok .samples i l)), tt) in
-          off-done rows (off-append (planRows (plan r b a K ∷ []) ++ shared) _ (off-append (planRows (plan r b a K ∷ [])) shared plans size) samples)
+  pub allowed-series : AllowedSeries ss M f nr nw → firstOf rows ≡ done
+  unfolding smoothRows
+  allowed-series ok =
+      let lengths = no-or (no-or (no-differs {n = length f} refl) (no-differs (ok .results))) (no-differs (ok .work)) in
+      let samples : Off (sampleRow M f (λ i. true) ∷ []) = (rowAt-off 11 (length f) (λ i l. le-ltb _ _ (ok .samples i l)), tt) in
+      off-done rows (off-append common _ (allowed-length ss M (length f) (ok .common) lengths) samples)
 
-      common-plain : Plain 8 (planRows (plan r b a K ∷ []) ++ shared)
-      unfolding planRows sizeRows
-      common-plain = tt
+  -- the position of an answer x
+  abbrev Placed : Answer → Type 0
+  Placed x = ((x .number ≡ 11 → ⊥) × (x .position ≡ 0)) ⊎ ((x .number ≡ 11) × FirstAbove M f (x .position))
 
-      -- the position of an answer x
-      abbrev Placed : Answer → Type 0
-      Placed x = ((x .number ≡ 11 → ⊥) × (x .position ≡ 0)) ⊎ ((x .number ≡ 11) × FirstAbove M f (x .position))
+  common-unplaced : Unplaced 11 common
+  unfolding planRows sizeRows
+  common-unplaced = tt
 
-      placed : {x : Answer} → x ≡ firstOf rows → Placed x
-      unfolding smoothRows
-      placed {x} e = go (ℕ-discrete (firstOf (planRows (plan r b a K ∷ []) ++ shared) .number) 0)
-        where
-          alone : (x ≡ done) ⊎ ((x .number ≡ 11) × (x .position < length f) × (above M (at f (x .position)) ≡ true) × ((j : ℕ) → j < x .position → above M (at f j) ≡ false)) → Placed x
-          alone (inl d) = let z : x .number ≡ 0 = ap (λ (y : Answer). y .number) d in inl (λ n. omega arith, ap (λ (y : Answer). y .position) d)
-          alone (inr (n, l, t, h)) = inr (n, record { within = l; above = ltb-true _ _ t; before = λ j k. ltb-false _ _ (h j k) })
+  placed : {x : Answer} → x ≡ firstOf rows → Placed x
+  unfolding smoothRows
+  placed {x} e = go (ℕ-discrete (firstOf common .number) 0)
+    where
+      alone : (x ≡ done) ⊎ ((x .number ≡ 11) × (x .position < length f) × (above M (at f (x .position)) ≡ true) × ((j : ℕ) → j < x .position → above M (at f j) ≡ false)) → Placed x
+      alone (inl d) = let z : x .number ≡ 0 = number-of d in inl (λ n. omega arith, ap (λ (y : Answer). y .position) d)
+      alone (inr (n, l, t, h)) = inr (n, record { within = l; above = ltb-true _ _ t; before = λ j k. ltb-false _ _ (h j k) })
 
-          go : Dec (firstOf (planRows (plan r b a K ∷ []) ++ shared) .number ≡ 0) → Placed x
-          go (yes z) = alone (rowAt-answer 11 (length f) _ (e ∙ sym (done-rest (planRows (plan r b a K ∷ []) ++ shared) _ (common-rising (seriesOf (plan r b a K) (length f)) M wrong) refl z refl)))
-          go (no n) =
-              let same = e ∙ sym (refused-first _ _ refl n) in
-              let (p, l) = first-plain 8 _ common-plain in
-              let few : x .number ≤ 8 = rw same l in
-              inl (λ h. omega arith, ap (λ (y : Answer). y .position) same ∙ p)
+      go : Dec (firstOf common .number ≡ 0) → Placed x
+      go (yes z) = alone (rowAt-answer 11 (length f) _ (e ∙ sym (done-rest common _ (common-numbered (seriesOf ss (length f)) M wrong) refl z refl)))
+      go (no n) =
+          let same = e ∙ sym (refused-first common _ refl n) in
+          let (p, m) = first-unplaced 11 common common-unplaced n in
+          inl (λ h. m (sym (number-of same) ∙ h), ap (λ (y : Answer). y .position) same ∙ p)
 
-      -- at 11 the position is that of the first sample above M, else 0
-      module _ {x : Answer} (e : x ≡ firstOf rows) where
-        pub series-position : x .number ≡ 11 → FirstAbove M f (x .position)
-        series-position n = go (placed e)
-          where
-            go : Placed x → FirstAbove M f (x .position)
-            go (inl (h, p)) = absurd (h n)
-            go (inr (h, p)) = p
+  module _ {x : Answer} (e : x ≡ firstOf rows) where
+    pub series-position : x .number ≡ 11 → FirstAbove M f (x .position)
+    series-position n = go (placed e)
+      where
+        go : Placed x → FirstAbove M f (x .position)
+        go (inl (h, p)) = absurd (h n)
+        go (inr (h, p)) = p
 
-        pub series-no-position : (x .number ≡ 11 → ⊥) → x .position ≡ 0
-        series-no-position n = go (placed e)
-          where
-            go : Placed x → x .position ≡ 0
-            go (inl (h, p)) = p
-            go (inr (h, p)) = absurd (n h)
+    pub series-no-position : (x .number ≡ 11 → ⊥) → x .position ≡ 0
+    series-no-position n = go (placed e)
+      where
+        go : Placed x → x .position ≡ 0
+        go (inl (h, p)) = p
+        go (inr (h, p)) = absurd (n h)
 
-    -- ---- a plan's own numbers
-    refused : (AllowedPlan r b a K → ⊥) → firstOf (planRows (plan r b a K ∷ [])) .number ≡ 0 → ⊥
-    refused h e = h (plan-allowed e)
+-- ---- a plan's own numbers
+positive : (ss : List Stage) → AllowedStages ss → PositiveInner ss
+positive [] ok = none
+positive (s ∷ ss) ok = ok .0 .inner .0 and positive ss (ok .1)
 
-    pub planDivisor-refused : (AllowedPlan r b a K → ⊥) → planDivisor (plan r b a K) ≡ 0
-    unfolding planDivisor
-    planDivisor-refused h = rw (← refused-first (planRows (plan r b a K ∷ [])) ((6 when ltb maxResult (divisor (plan r b a K))) ∷ []) refl (refused h)) (ifDone-refused _ _ _ (refused h))
+pub divisor-allowed : (ss : List Stage) → AllowedStages ss → 0 < divisor ss
+divisor-allowed ss ok = divisor-positive (positive ss ok)
 
-    pub planReach-refused : (AllowedPlan r b a K → ⊥) → planReach (plan r b a K) ≡ 0
-    unfolding planReach
-    planReach-refused h = ifDone-refused _ _ _ (refused h)
+module _ (ss : List Stage) where
+  own-numbered : Numbered (ownRows ss)
+  unfolding ownRows planRows
+  own-numbered = tt
 
-    module _ (ok : AllowedPlan r b a K) where
-      abbrev six : List Row
-      six = (6 when ltb maxResult (divisor (plan r b a K))) ∷ []
+  accepted : AcceptedPlan ss → firstOf (ownRows ss) .number ≡ 0
+  unfolding ownRows
+  accepted ok = number-of (off-done (ownRows ss) (off-append (planRows (ss ∷ [])) _ (allowed-plan ss (ok .plan)) (le-ltb _ _ (ok .divides), tt)))
 
-      then-six : {x : Answer} → x ≡ firstOf six → x ≡ firstOf (planRows (plan r b a K ∷ []) ++ six)
-      then-six e = done-rest _ _ (plan-rising _) (sym (allowed-plan ok)) refl e
+  accepting : firstOf (ownRows ss) .number ≡ 0 → AcceptedPlan ss
+  unfolding ownRows
+  accepting e =
+      let (p, s) = append-off (planRows (ss ∷ [])) _ (done-off (ownRows ss) own-numbered e) in
+      record { plan = plan-allowed ss p; divides = ltb-false _ _ (s .0) }
 
-      pub planDivisor-large : maxResult < divisor (plan r b a K) → planDivisor (plan r b a K) ≡ 0
-      unfolding planDivisor
-      planDivisor-large l = rw (← then-six (sym (first-on _ [] (lt-ltb maxResult (divisor (plan r b a K)) l)))) (ifDone-refused _ _ _ (λ e. omega arith))
+  pub accepted-divisor : AcceptedPlan ss → planDivisor ss ≡ divisor ss
+  unfolding planDivisor
+  accepted-divisor ok = ifDone-done _ _ _ (accepted ok)
 
-      pub planDivisor-done : divisor (plan r b a K) ≤ maxResult → planDivisor (plan r b a K) ≡ divisor (plan r b a K)
-      unfolding planDivisor
-      planDivisor-done l = rw (← then-six (sym (off-done six (le-ltb maxResult (divisor (plan r b a K)) l, tt)))) (ifDone-done _ _ _ refl)
+  pub accepted-reach : AcceptedPlan ss → planReach ss ≡ reach ss
+  unfolding planReach
+  accepted-reach ok = ifDone-done _ _ _ (accepted ok)
 
-      pub planReach-done : planReach (plan r b a K) ≡ reach (plan r b a K)
-      unfolding planReach
-      planReach-done = rw (allowed-plan ok) (ifDone-done _ _ _ refl)
+  pub no-divisor : (AcceptedPlan ss → ⊥) → planDivisor ss ≡ 0
+  unfolding planDivisor
+  no-divisor h = ifDone-refused _ _ _ (λ e. h (accepting e))
+
+  pub no-reach : (AcceptedPlan ss → ⊥) → planReach ss ≡ 0
+  unfolding planReach
+  no-reach h = ifDone-refused _ _ _ (λ e. h (accepting e))
+
+  pub divisor-accepted : (planDivisor ss ≡ 0 → ⊥) → AcceptedPlan ss
+  unfolding planDivisor
+  divisor-accepted h = go (ℕ-discrete (firstOf (ownRows ss) .number) 0)
+    where
+      go : Dec (firstOf (ownRows ss) .number ≡ 0) → AcceptedPlan ss
+      go (yes e) = accepting e
+      go (no n) = absurd (h (ifDone-refused _ _ _ n))

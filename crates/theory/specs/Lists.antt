@@ -1,7 +1,7 @@
 -- Lists made of their elements, and how large those are.
 --   Sized M f   no element of f is larger than M; its field `size i` holds past the end too, where f reads as 0
 -- Laws: length-listOf, at-listOf, listOf-ext, listOf-at (a list is that of its elements); at-past;
--- sized (from the elements there are), sized-weaken, sized-listOf.
+-- sized (from the elements there are), sized-listOf.
 use mathlib.Core.Path.{_≡_, refl, sym, _∙_, ap, ap₂}
 use mathlib.Core.List.{List, _∷_}
 use Prim.Native.Nat.{ℕ, zero, suc, _≤_, _<_}
@@ -10,7 +10,7 @@ use native.Mathlib.Omega.{arith}
 use lib.ListN.{length, List·getD-eq-default}
 use lib.Seq.{ext-getD}
 use lib.IntN.{ℤ, pos}
-use Rattle.algebra.specs.Size.{Abs, abs-weaken}
+use Rattle.algebra.specs.Size.{Abs}
 use Rattle.meaning.specs.Extension.{at}
 use Rattle.meaning.specs.Smoothing.{listOf}
 
@@ -47,9 +47,6 @@ sized {M} f h = record { size = λ i. go i (decLt i (length f)) }
     go : (i : ℕ) → Dec (i < length f) → Abs (at f i) M
     go i (yes l) = h i l
     go i (no l) = rw (at-past f i (omega arith)) (omega arith)
-
-pub sized-weaken : {M Q : ℕ} {f : List ℤ} → Sized M f → M ≤ Q → Sized Q f
-sized-weaken s l = record { size = λ i. abs-weaken (s .size i) l }
 
 pub sized-listOf : {M : ℕ} (n : ℕ) (g : ℕ → ℤ) → ((i : ℕ) → i < n → Abs (g i) M) → Sized M (listOf n g)
 sized-listOf n g h = sized (listOf n g) (λ i l. rw (at-listOf n g i (omega (arith, length-listOf n g))) (h i (omega (arith, length-listOf n g))))

@@ -1,25 +1,32 @@
--- The table of numbers: which row answers, and what an answer of 0 says.
---   Rising rows      the numbers rise from row to row, from above 0; of rows that are written down, tt
---   Applies n rows   a row with number n applies
---   Off rows         no row applies
---   Plain m rows     every row has position 0 and a number up to m; of rows that are written down, tt
---   done             the answer 0 with position 0
--- Laws: first-on (the first row applies); first-applies, first-lowest (the answer is that of a row that applies, and of the lowest); first-plain;
+-- The table of numbers: which row answers, and what an answer of 0 says. The first two conditions are tt of rows that are written down.
+--   Numbered rows     no row answers 0
+--   Rising rows       the numbers rise from row to row, from above 0
+--   Unplaced m rows   every row has position 0 and another number than m
+--   Off rows          no row applies
+--   done              the answer 0 with position 0
+-- Laws: first-on (the first row applies), first-applies (the answer is that of a row that applies), first-lowest (where the numbers rise, of the lowest), first-unplaced;
 -- done-off, off-done, done-none, none-done (it is 0 exactly where none applies); off-append, append-off; refused-first, done-rest (rows in two parts);
--- ifDone-done, ifDone-refused; plan-rising, common-rising.
+-- ifDone-done, ifDone-refused; plan-numbered, common-numbered.
 use mathlib.Core.Path.{_≡_, refl, sym, _∙_, ap}
-use mathlib.Core.Bool.{Bool, true, false, cond, _&&_, true≢false}
+use mathlib.Core.Bool.{Bool, true, false, cond, not, _&&_, true≢false}
 use mathlib.Core.List.{List, [], _∷_, _++_}
 use Prim.Native.Nat.{ℕ, _+_, _≤_, _<_}
 use native.Mathlib.Decide.{ℕ-discrete}
 use native.Mathlib.Omega.{arith}
 use lib.Dec.{T, leb, ltb, eqb}
-use borrow.Author.Tests.{leb-true, ltb-true, eqb-true, eq-eqb, ne-eqb}
+use borrow.Author.Tests.{leb-true, ltb-true, eqb-true, eqb-false, eq-eqb, ne-eqb}
 use Rattle.meaning.specs.Kernel.{Stage}
-use Rattle.meaning.specs.Refusals.{Answer, Row, firstOf, Shape, planRows, sizeRows, commonRows, ifDone}
+use Rattle.meaning.specs.Refusals.{Answer, Row, firstOf, Applies, here, later, differs, Shape, planRows, sizeRows, commonRows, ifDone}
 
 abbrev pub done : Answer
 done = record { number = 0; position = 0 }
+
+abbrev numbered : List Row → Bool
+numbered [] = true
+numbered (row ∷ rows) = ltb 0 (row .answer .number) && numbered rows
+
+abbrev pub Numbered : List Row → Type 0
+Numbered rows = T (numbered rows)
 
 abbrev risesFrom : ℕ → List Row → Bool
 risesFrom n [] = true
@@ -27,6 +34,13 @@ risesFrom n (row ∷ rows) = ltb n (row .answer .number) && risesFrom (row .answ
 
 abbrev pub Rising : List Row → Type 0
 Rising rows = T (risesFrom 0 rows)
+
+abbrev unplaced : ℕ → List Row → Bool
+unplaced m [] = true
+unplaced m (row ∷ rows) = eqb (row .answer .position) 0 && differs (row .answer .number) m && unplaced m rows
+
+abbrev pub Unplaced : ℕ → List Row → Type 0
+Unplaced m rows = T (unplaced m rows)
 
 abbrev pub Off : List Row → Type 0
 Off [] = Unit {0}
@@ -49,25 +63,18 @@ unfolding firstOf
 off-done [] h = refl
 off-done (row ∷ rows) h = rw (h .0) (off-done rows (h .1))
 
-off-from : (m : ℕ) (rows : List Row) → T (risesFrom m rows) → firstOf rows .number ≡ 0 → Off rows
+pub done-off : (rows : List Row) → Numbered rows → firstOf rows .number ≡ 0 → Off rows
 unfolding firstOf
-off-from m [] t e = tt
-off-from m (row ∷ rows) t e =
-    let (l, u) = split-lt m (row .answer .number) (risesFrom (row .answer .number) rows) t in
-    go (row .applies) refl l (off-from (row .answer .number) rows u) e
+done-off [] t e = tt
+done-off (row ∷ rows) t e =
+    let (l, u) = split-lt 0 (row .answer .number) (numbered rows) t in
+    go (row .applies) refl l (done-off rows u) e
   where
-    go : (b : Bool) → row .applies ≡ b → m < row .answer .number → (firstOf rows .number ≡ 0 → Off rows) → cond b (row .answer) (firstOf rows) .number ≡ 0 → (row .applies ≡ false) × Off rows
+    go : (b : Bool) → row .applies ≡ b → 0 < row .answer .number → (firstOf rows .number ≡ 0 → Off rows) → cond b (row .answer) (firstOf rows) .number ≡ 0 → (row .applies ≡ false) × Off rows
     go true h l k e = let no : ⊥ = omega arith in absurd no
     go false h l k e = (h, k e)
 
-pub done-off : (rows : List Row) → Rising rows → firstOf rows .number ≡ 0 → Off rows
-done-off rows t e = off-from 0 rows t e
-
 -- ---- the lowest number that applies
-pub data Applies (n : ℕ) : List Row → Type 0 where
-  here : {row : Row} {rows : List Row} → row .answer .number ≡ n → row .applies ≡ true → Applies n (row ∷ rows)
-  later : {row : Row} {rows : List Row} → Applies n rows → Applies n (row ∷ rows)
-
 pub first-applies : (rows : List Row) → (firstOf rows .number ≡ 0 → ⊥) → Applies (firstOf rows .number) rows
 unfolding firstOf
 first-applies [] h = absurd (h refl)
@@ -92,30 +99,23 @@ pub first-lowest : (rows : List Row) {n : ℕ} → Rising rows → Applies n row
 first-lowest rows t k = lowest-from 0 rows t k .0
 
 -- ---- rows with position 0
-abbrev plains : ℕ → List Row → Bool
-plains m [] = true
-plains m (row ∷ rows) = eqb (row .answer .position) 0 && leb (row .answer .number) m && plains m rows
-
-abbrev pub Plain : ℕ → List Row → Type 0
-Plain m rows = T (plains m rows)
-
-pub first-plain : (m : ℕ) (rows : List Row) → Plain m rows → (firstOf rows .position ≡ 0) × (firstOf rows .number ≤ m)
+pub first-unplaced : (m : ℕ) (rows : List Row) → Unplaced m rows → (firstOf rows .number ≡ 0 → ⊥) → (firstOf rows .position ≡ 0) × (firstOf rows .number ≡ m → ⊥)
 unfolding firstOf
-first-plain m [] t = (refl, omega arith)
-first-plain m (row ∷ rows) t = go (row .applies) (eqb (row .answer .position) 0) (leb (row .answer .number) m) refl refl t (first-plain m rows)
+first-unplaced m [] t h = absurd (h refl)
+first-unplaced m (row ∷ rows) t h = go (row .applies) (eqb (row .answer .position) 0) (eqb (row .answer .number) m) refl refl t (first-unplaced m rows) h
   where
-    go : (b p n : Bool) → eqb (row .answer .position) 0 ≡ p → leb (row .answer .number) m ≡ n → T (p && n && plains m rows) → (Plain m rows → (firstOf rows .position ≡ 0) × (firstOf rows .number ≤ m)) → (cond b (row .answer) (firstOf rows) .position ≡ 0) × (cond b (row .answer) (firstOf rows) .number ≤ m)
-    go true true true e f t k = (eqb-true _ _ e, leb-true _ _ f)
-    go false true true e f t k = k t
-    go b true false e f t k = absurd t
-    go b false n e f t k = absurd t
+    go : (b p n : Bool) → eqb (row .answer .position) 0 ≡ p → eqb (row .answer .number) m ≡ n → T (p && not n && unplaced m rows) → (Unplaced m rows → (firstOf rows .number ≡ 0 → ⊥) → (firstOf rows .position ≡ 0) × (firstOf rows .number ≡ m → ⊥)) → (cond b (row .answer) (firstOf rows) .number ≡ 0 → ⊥) → (cond b (row .answer) (firstOf rows) .position ≡ 0) × (cond b (row .answer) (firstOf rows) .number ≡ m → ⊥)
+    go true true false e f t k h = (eqb-true _ _ e, eqb-false _ _ f)
+    go false true false e f t k h = k t h
+    go b true true e f t k h = absurd t
+    go b false n e f t k h = absurd t
 
 -- ---- done exactly where no row applies
 off-none : (rows : List Row) {n : ℕ} → Off rows → Applies n rows → ⊥
 off-none (row ∷ rows) h (here e k) = true≢false (sym k ∙ h .0)
 off-none (row ∷ rows) h (later k) = off-none rows (h .1) k
 
-pub done-none : (rows : List Row) → Rising rows → firstOf rows .number ≡ 0 → {n : ℕ} → Applies n rows → ⊥
+pub done-none : (rows : List Row) → Numbered rows → firstOf rows .number ≡ 0 → {n : ℕ} → Applies n rows → ⊥
 done-none rows t e k = off-none rows (done-off rows t e) k
 
 pub none-done : (rows : List Row) → ((n : ℕ) → Applies n rows → ⊥) → firstOf rows .number ≡ 0
@@ -149,7 +149,7 @@ refused-first (row ∷ rows) more {a} e n = go (row .applies) (λ f. refused-fir
     go true k e = e
     go false k e = k e
 
-pub done-rest : (rows more : List Row) {a b : Answer} → Rising rows → a ≡ firstOf rows → a .number ≡ 0 → b ≡ firstOf more → b ≡ firstOf (rows ++ more)
+pub done-rest : (rows more : List Row) {a b : Answer} → Numbered rows → a ≡ firstOf rows → a .number ≡ 0 → b ≡ firstOf more → b ≡ firstOf (rows ++ more)
 done-rest rows more {a} t e z f = f ∙ sym (off-skip rows more (done-off rows t (rw (← e) z)))
 
 -- ---- what a call leaves
@@ -162,10 +162,10 @@ unfolding ifDone
 ifDone-refused a new old e = rw (ne-eqb (a .number) 0 e)
 
 -- ---- the rows that calls share
-pub plan-rising : (ps : List (List Stage)) → Rising (planRows ps)
+pub plan-numbered : (ps : List (List Stage)) → Numbered (planRows ps)
 unfolding planRows
-plan-rising ps = tt
+plan-numbered ps = tt
 
-pub common-rising : (s : Shape) (M : ℕ) (wrongLength : Bool) → Rising (commonRows s M wrongLength)
+pub common-numbered : (s : Shape) (M : ℕ) (wrongLength : Bool) → Numbered (commonRows s M wrongLength)
 unfolding planRows sizeRows
-common-rising s M wrongLength = tt
+common-numbered s M wrongLength = tt

@@ -1,9 +1,9 @@
 -- How large results grow: samples of size up to M give results of size up to M times the divisor, and so after every pass.
--- Laws: passAt-size, convolved-size; ext-size, pass-size; result-size, results-size; part-size, replicate-size (after some of the passes).
-use mathlib.Core.List.{List, [], _∷_, _++_}
-use Prim.Native.Nat.{ℕ, _*_, _-_, _≤_, _<_}
-use native.Mathlib.Nat.{mul-one, mul-comm, mul-le-mul-left}
-use lib.ListN.{length, replicate}
+-- Laws: passAt-size, convolved-size; ext-size, pass-size; result-size, results-size.
+use mathlib.Core.List.{List, [], _∷_}
+use Prim.Native.Nat.{ℕ, _*_, _-_}
+use native.Mathlib.Nat.{mul-one, mul-comm}
+use lib.ListN.{length}
 use lib.IntN.{ℤ, pos, _-ℤ_}
 use Rattle.algebra.specs.Size.{Abs}
 use Rattle.algebra.specs.Within.{within-weighted}
@@ -12,8 +12,7 @@ use Rattle.meaning.specs.Kernel.{Stage, kernel, width, tapSum, divisor, passAt}
 use Rattle.meaning.specs.Smoothing.{convolved, result, results, pass}
 use Rattle.theory.specs.Kernel.{kernel-nonneg}
 use Rattle.theory.specs.Convolution.{kernel-sum, passAt-one}
-use Rattle.theory.specs.Stages.{PositiveInner, inner-replicate, divisor-part, replicate-part}
-use Rattle.theory.specs.Lists.{Sized, sized-weaken, sized-listOf}
+use Rattle.theory.specs.Lists.{Sized, sized-listOf}
 
 -- ---- of a row
 pub convolved-size : (ss : List Stage) {M : ℕ} {e : ℤ → ℤ} → ((n : ℤ) → Abs (e n) M) → (n : ℤ) → Abs (convolved ss e n) (M * divisor ss)
@@ -41,11 +40,3 @@ module _ (φ : IndexMap) {M : ℕ} {f : List ℤ} (h : Sized M f) where
   pub results-size : (ss : List Stage) → Sized (M * divisor ss) (results φ ss f)
   unfolding results
   results-size ss = sized-listOf (length f) _ (λ n l. result-size ss (pos n))
-
-  -- after the passes of ts, when those of ss are still to come
-  pub part-size : {ss : List Stage} → PositiveInner ss → (ts : List Stage) → Sized (M * divisor (ss ++ ts)) (results φ ts f)
-  part-size p ts = sized-weaken (results-size ts) (mul-le-mul-left M (divisor-part ts p))
-
-  -- after k of K equal passes
-  pub replicate-size : (s : Stage) → 0 < s .inner → {k K : ℕ} → k ≤ K → Sized (M * divisor (replicate K s)) (results φ (replicate k s) f)
-  replicate-size s b {k} {K} l = rw (← replicate-part s l) (part-size (inner-replicate (K - k) s b) (replicate k s))

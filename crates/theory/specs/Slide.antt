@@ -4,16 +4,13 @@
 --                  `weighed`, `pair`, `edges`; of the weighted one `change`, `outer`, `inside`, `between`; of both `written`
 -- The plain sum runs the window and weighs it where it is written (window-slide, passAt-window).
 -- The weighted sum runs the pass itself: the survey's equation 33 (passAt-slide).
--- Either step stays within twice the bound: M times the sum of the taps for one pass (step-size), M times the divisor for all
--- (step-part, and step-replicate where the stages are equal).
+-- Either step stays within twice M times the sum of the taps (step-size); that this is never above M times the divisor of all passes says room-part.
 -- Laws: window-none (of radius 0), window-grow, window-range, window-slide, passAt-window, passAt-slide;
--- window-size, step-size, step-part, step-replicate.
+-- window-size, step-size.
 use mathlib.Core.Path.{_≡_, refl, sym, _∙_, ap}
-use mathlib.Core.List.{List, _∷_, _++_}
 use Prim.Native.Nat.{ℕ, suc, _+_, _*_, _-_, _≤_, _<_}
-use native.Mathlib.Nat.{le-mul-of-pos-right, mul-le-mul-left}
+use native.Mathlib.Nat.{le-mul-of-pos-right}
 use native.Mathlib.Omega.{arith}
-use lib.ListN.{replicate}
 use lib.IntN.{ℤ, pos, predℤ, sucℤ, _+ℤ_, _-ℤ_, _*ℤ_, -ℤ-one, +ℤ-one, +ℤ-idr, +ℤ-negℤ-cancel}
 use Rattle.algebra.specs.Difference.{rep, diff, linear}
 use Rattle.algebra.specs.Expression.{_⊕_, _⊝_, _⊗_, con}
@@ -21,13 +18,9 @@ use Rattle.algebra.specs.Solver.{ring, _≗_}
 use Rattle.algebra.specs.Size.{Abs, abs-weaken, abs-self, abs-+, abs--, abs-*}
 use Rattle.algebra.specs.Sum.{sumZ}
 use Rattle.algebra.specs.Within.{sumWithin, within-ext, within-step, within-interval, within-abs}
-use Rattle.meaning.specs.Extension.{IndexMap, ext}
-use Rattle.meaning.specs.Kernel.{Stage, tapSum, divisor, passAt}
-use Rattle.meaning.specs.Smoothing.{results}
+use Rattle.meaning.specs.Kernel.{Stage, tapSum, passAt}
 use Rattle.theory.specs.Kernel.{tap-split}
-use Rattle.theory.specs.Stages.{PositiveInner, inner-replicate, divisor-part, replicate-part}
-use Rattle.theory.specs.Lists.{Sized}
-use Rattle.theory.specs.Sizes.{passAt-size, ext-size, results-size}
+use Rattle.theory.specs.Sizes.{passAt-size}
 
 unfoldable pub window : (ℤ → ℤ) → ℕ → ℤ → ℤ
 window e r n = sumWithin r (λ j. e (n -ℤ j))
@@ -115,12 +108,3 @@ module _ (s : Stage) {M : ℕ} {e : ℤ → ℤ} (h : (n : ℤ) → Abs (e n) M)
         between = λ n x y. abs-weaken (abs-+ (passAt-size s h n) (abs-* (abs-self (pos (s .edge))) (abs-- (h x) (h y)))) (omega arith);
         written = λ n. abs-weaken (passAt-size s h n) (omega arith);
       }
-
--- the pass of s after those of ts, with those of ss to come
-pub step-part : (φ : IndexMap) {M : ℕ} {f : List ℤ} → Sized M f → {ss : List Stage} → PositiveInner ss → (s : Stage) → 0 < s .inner → (ts : List Stage) {B : ℕ} → 2 * (M * divisor (ss ++ (s ∷ ts))) ≤ B → Step s (ext φ (results φ ts f)) B
-unfolding divisor
-step-part φ {M} h p s b ts l = step-size s (ext-size φ (results-size φ h ts)) b (omega (arith, mul-le-mul-left M (divisor-part (s ∷ ts) p)))
-
--- the pass after k of K equal ones
-pub step-replicate : (φ : IndexMap) {M : ℕ} {f : List ℤ} → Sized M f → (s : Stage) → 0 < s .inner → {k K : ℕ} → k < K → {B : ℕ} → 2 * (M * divisor (replicate K s)) ≤ B → Step s (ext φ (results φ (replicate k s) f)) B
-step-replicate φ {M} h s b {k} {K} l q = step-part φ h (inner-replicate (K - suc k) s b) s b (replicate k s) (rw (replicate-part s l) q)

@@ -1,5 +1,5 @@
 use borrow.Author.Needs.{needs}
-use Rattle.plan.specs.Told.{stagesOf}
+use Rattle.plan.specs.Structs.{stagesOf}
 use Rattle.series.specs.Steps.{test-refused, test-rest}
 use Rattle.series.proofs.refusal.Statement.{statement}
 use Rattle.series.proofs.refusal.Tie as tie

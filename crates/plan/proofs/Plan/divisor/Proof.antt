@@ -1,6 +1,6 @@
 use borrow.Author.Needs.{needs}
-use Rattle.plan.specs.Told.{AllowedPlan}
-use Rattle.plan.specs.Own.{plan-passed, divisor-failed, divisor-large, divisor-done}
+use Rattle.plan.specs.Tested.{Tested}
+use Rattle.plan.specs.Tested.{plan-passed, divisor-failed, divisor-large, divisor-done}
 use Rattle.plan.proofs.Plan.divisor.Statement.{statement}
 use Rattle.plan.proofs.Plan.divisor.Tie as tie
 
@@ -10,7 +10,7 @@ plan-refusal-requires c κs = search needs
 returns : tie.Need-returns
 returns c = divisor-failed (c .before .before .args .self) (c .before .plan-refusal .ensures) (c .if1 .taken)
 
-allowed : (c : tie.Else1) → AllowedPlan (c .before .before .args .self)
+allowed : (c : tie.Else1) → Tested (c .before .before .args .self)
 allowed c = plan-passed _ (c .before .plan-refusal .ensures) (c .if1 .left)
 
 scaled-requires : tie.Need-scaled-requires

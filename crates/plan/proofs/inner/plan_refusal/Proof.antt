@@ -1,5 +1,5 @@
 use borrow.Author.Needs.{needs}
-use Rattle.plan.specs.Own.{plan-tested}
+use Rattle.plan.specs.Tested.{plan-tested}
 use Rattle.plan.proofs.inner.plan_refusal.Statement.{statement}
 use Rattle.plan.proofs.inner.plan_refusal.Tie as tie
 

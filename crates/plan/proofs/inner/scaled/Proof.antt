@@ -5,7 +5,7 @@ use native.Mathlib.Numerals.{add-one}
 use native.Mathlib.Omega.{arith}
 use borrow.Author.Needs.{needs}
 use Rattle.theory.specs.Stages.{divisor-replicate, tapSum-positive}
-use Rattle.plan.specs.Told.{stageOf}
+use Rattle.plan.specs.Structs.{stageOf}
 use Rattle.plan.specs.Capped.{capped, capped-times}
 use Rattle.plan.proofs.inner.scaled.Statement.{statement}
 use Rattle.plan.proofs.inner.scaled.Tie as tie

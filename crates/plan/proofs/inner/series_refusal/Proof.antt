@@ -1,8 +1,8 @@
 use mathlib.Core.Path.{_∙_, ap}
 use borrow.Author.Needs.{needs}
 use Rattle.meaning.specs.Refusals.{firstOf}
-use Rattle.theory.specs.Refusals.{refused-first, done-rest, plan-rising}
-use Rattle.plan.specs.Own.{plan-passed}
+use Rattle.theory.specs.Refusals.{refused-first, done-rest, plan-numbered}
+use Rattle.plan.specs.Tested.{plan-passed}
 use Rattle.plan.specs.Capped.{sizeRows-capped}
 use Rattle.plan.proofs.inner.series_refusal.Statement.{statement}
 use Rattle.plan.proofs.inner.series_refusal.Tie as tie
@@ -25,7 +25,7 @@ size-refusal-requires c κs = search needs
 returns-2 : tie.Need-returns-2
 returns-2 c =
     let a = c .before .before .before .before .before .args in
-    done-rest _ _ (plan-rising _) (c .before .before .before .before .plan-refusal .ensures) (c .before .before .before .if1 .left)
+    done-rest _ _ (plan-numbered _) (c .before .before .before .before .plan-refusal .ensures) (c .before .before .before .if1 .left)
     (c .size-refusal .ensures ∙ ap firstOf (sizeRows-capped (a .bound) _ _ _ _ (c .before .scaled .ensures)) ∙ rw (c .before .before .outside .ensures))
 
 pub series-refusal-spec : {M : Type 1} → statement M

@@ -4,11 +4,11 @@ use native.Mathlib.Omega.{arith}
 use borrow.Author.Needs.{needs}
 use Rattle.meaning.specs.Kernel.{tapSum}
 use Rattle.plan.specs.declared.Plan.{Plan}
-use Rattle.plan.specs.Told.{AllowedPlan}
+use Rattle.plan.specs.Tested.{Tested}
 use Rattle.plan.proofs.inner.tap_sum.Statement.{statement}
 use Rattle.plan.proofs.inner.tap_sum.Tie as tie
 
-within : (p : Plan) → AllowedPlan p → (2 * p .radius + 1) * p .inner ≤ 2047 * 255
+within : (p : Plan) → Tested p → (2 * p .radius + 1) * p .inner ≤ 2047 * 255
 within p ok = let w : 2 * p .radius + 1 ≤ 2047 = omega (arith, ok .radius) in mul-le-mul w (ok .inner .1)
 
 mul-result : tie.Need-mul-result
