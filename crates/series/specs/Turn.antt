@@ -2,7 +2,7 @@
 --   Widening f j s lo hi           the locals of the first window at radius j: s so far, lo and hi the cells on either side
 --   Turn p f n b a w lo first hi   the locals of the pass at cell n: b and a the weights, w the window, lo and hi the cells
 --                                  on either side, first the one that leaves
--- Laws: widened-is, pair-fits, widened-fits; summable, cell-is, cell-fits, slide-is, slide-fits.
+-- Laws: widened-is, pair-fits, widened-fits; summable, cell-is, cell-fits, low-next, slide-is, slide-fits.
 use Prim.Native.Nat.{ℕ, suc, _+_, _*_, _≤_, _<_}
 use mathlib.Core.Path.{_≡_, sym, _∙_, ap, ap₂}
 use mathlib.Core.List.{List}
@@ -13,6 +13,7 @@ use lib.ListN.{length}
 use lib.IntN.{ℤ, pos, negsuc, _+ℤ_, _-ℤ_, _*ℤ_, +ℤ-idl, +ℤ-negℤ-cancel}
 use mir.Syntax.{w64}
 use mir.Val.{SFits}
+use Rattle.algebra.specs.Difference.{diff, linear}
 use Rattle.algebra.specs.Size.{Abs, abs-+, fits-abs}
 use Rattle.meaning.specs.Limits.{maxResult}
 use Rattle.meaning.specs.Extension.{at, fold, ext}
@@ -57,6 +58,9 @@ pub record Turn (p : Plan) (f : List ℤ) (n : ℕ) (b a w lo first hi : ℤ) : 
   pub leaves : first ≡ ext fold f (pos n -ℤ pos (p .radius))
   pub enters : hi ≡ ext fold f (pos (n + p .radius + 1))
 
+back : (n r : ℕ) → pos n -ℤ pos r ≡ pos (n + 1) -ℤ pos (r + 1)
+back n r = simp diff (omega linear)
+
 fits : {z : ℤ} → Abs z (2 * maxResult) → SFits w64 z
 fits h = fits-abs h (omega arith)
 
@@ -83,6 +87,10 @@ module _ {p : Plan} {f : List ℤ} {N : ℕ} (h : Passable p f N) where
 
     pub cell-is : {r : ℤ} → r ≡ b *ℤ w +ℤ a *ℤ (lo +ℤ hi) → n < length f → r ≡ at (pass fold (stageOf p) f) n
     cell-is e l = e ∙ weighed-is ∙ sym (at-pass fold (stageOf p) f n l)
+
+    -- what leaves is the next cell on the low side
+    pub low-next : first ≡ ext fold f (pos (n + 1) -ℤ pos (p .radius + 1))
+    low-next = t .leaves ∙ ap (ext fold f) (back n (p .radius))
 
     pub slide-is : w +ℤ hi -ℤ first ≡ window (ext fold f) (p .radius) (pos (n + 1))
     slide-is =

@@ -46,15 +46,18 @@ fn behind(src: &[i64], n: usize, d: usize) -> i64
     }
 }
 
-// The window around 0, from the centre outward.
+// The window around 0, from the centre outward: what stands at -(j + 1) is what stood at j.
 fn first_window(src: &[i64], radius: usize) -> i64
     requires { ⌜ Summable radius (now src) ⌝ }
     ensures { λ r. ⌜ r ≡ window (ext fold (now (src .entry))) radius (pos 0) ⌝ }
 {
-    let mut s = ahead(src, 0);
+    let mut lo = ahead(src, 0);
+    let mut s = lo;
     let mut j: usize = 0;
     while j < radius {
-        s += ahead(src, j) + ahead(src, j + 1);
+        let hi = ahead(src, j + 1);
+        s += lo + hi;
+        lo = hi;
         j += 1;
     }
     s
@@ -89,14 +92,15 @@ pub fn pass(plan: Plan, src: &[i64], dst: &mut [i64])
     let inner = plan.inner as i64;
     let edge = plan.edge as i64;
     let mut w = first_window(src, radius);
+    let mut lo = behind(src, 0, radius + 1);
     let mut n: usize = 0;
     while n < src.len() {
-        let lo = behind(src, n, radius + 1);
         let first = behind(src, n, radius);
         let hi = ahead(src, n + radius + 1);
         let v = cell(inner, edge, w, lo, hi);
         dst[n] = v;
         w = slide(w, hi, first);
+        lo = first;
         n += 1;
     }
 }

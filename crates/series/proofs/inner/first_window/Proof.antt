@@ -1,4 +1,4 @@
--- `inner::first_window` meets its contract. The loop's invariant: s is the window of radius j. Assumes nothing.
+-- At radius j, s is the window and lo the cell that stands at j, and so the next one before the window too.
 use Prim.Native.Nat.{_-_, _≤_}
 use mathlib.Core.Path.{_≡_, sym, _∙_}
 use native.Mathlib.Omega.{arith}
@@ -14,36 +14,35 @@ use Rattle.series.proofs.inner.first_window.Statement.{statement}
 use Rattle.series.proofs.inner.first_window.Tie as tie
 
 abbrev Inv-loop : tie.InvT-loop
-Inv-loop src radius s₀ j₀ s j = (j ≤ radius) × (toZ w64 s ≡ window (ext fold src) j (pos 0))
+Inv-loop src radius lo₀ s₀ j₀ lo s j = (j ≤ radius) × (toZ w64 lo ≡ ext fold src (pos j)) × (toZ w64 s ≡ window (ext fold src) j (pos 0))
 
 abbrev μ-loop : tie.MeasureT-loop
-μ-loop src radius s₀ j₀ s j = radius - j
+μ-loop src radius lo₀ s₀ j₀ lo s j = radius - j
 
 ahead-requires : tie.Need-ahead-requires Inv-loop μ-loop
 ahead-requires c κs = search needs
 
 loop-holds : tie.Need-loop-holds Inv-loop μ-loop
-loop-holds c = (search needs, toZ-ofZ (sfits-of (c .ahead .ok)) ∙ c .ahead .ensures ∙ sym (window-none _ _))
-
-ahead-requires-2 : tie.Need-ahead-requires-2 Inv-loop μ-loop
-ahead-requires-2 c κs = search needs
+loop-holds c =
+    let first = toZ-ofZ (sfits-of (c .ahead .ok)) ∙ c .ahead .ensures in
+    (omega arith, first, first ∙ sym (window-none _ _))
 
 add-ahead : tie.Need-add-ahead Inv-loop μ-loop
 add-ahead c = search needs
 
-ahead-requires-3 : tie.Need-ahead-requires-3 Inv-loop μ-loop
-ahead-requires-3 c κs = search needs
+ahead-requires-2 : tie.Need-ahead-requires-2 Inv-loop μ-loop
+ahead-requires-2 c κs = search needs
 
-turn : (c : tie.After-ahead3 Inv-loop μ-loop) →
-    let l = c .before .before .before .loop in
-    Widening (c .before .before .before .before .before .args .src .now) (l .j) (toZ w64 (l .s)) (toZ w64 (ofZ w64 (c .before .ahead2 .result))) (toZ w64 (ofZ w64 (c .ahead3 .result)))
-turn c = record { sum = c .before .before .before .loop .inv .1; low = search needs; high = search needs }
+turn : (c : tie.After-ahead2 Inv-loop μ-loop) →
+    let l = c .before .before .loop in
+    Widening (c .before .before .before .before .args .src .now) (l .j) (toZ w64 (l .s)) (toZ w64 (l .lo)) (toZ w64 (ofZ w64 (c .ahead2 .result)))
+turn c = record { sum = c .before .before .loop .inv .2; low = c .before .before .loop .inv .1; high = search needs }
 
 add-s : tie.Need-add-s Inv-loop μ-loop
-add-s c = pair-fits (c .before .before .before .before .before .pre) (omega arith) (turn c)
+add-s c = pair-fits (c .before .before .before .before .pre) (omega arith) (turn c)
 
 add-s-2 : tie.Need-add-s-2 Inv-loop μ-loop
-add-s-2 c = rw (toZ-ofZ (add-s c)) (widened-fits (c .before .before .before .before .before .pre) (omega arith) (turn c))
+add-s-2 c = rw (toZ-ofZ (add-s c)) (widened-fits (c .before .before .before .before .pre) (omega arith) (turn c))
 
 add-j : tie.Need-add-j Inv-loop μ-loop
 add-j c = search needs
@@ -52,12 +51,12 @@ loop-less : tie.Need-loop-less Inv-loop μ-loop
 loop-less c = search needs
 
 loop-again : tie.Need-loop-again Inv-loop μ-loop
-loop-again c = (omega arith, toZ-ofZ (add-s-2 c) ∙ rw (toZ-ofZ (add-s c)) (widened-is (c .before .before .before .before .before .pre) (omega arith) (turn c)))
+loop-again c = (omega arith, turn c .high, toZ-ofZ (add-s-2 c) ∙ rw (toZ-ofZ (add-s c)) (widened-is (c .before .before .before .before .pre) (omega arith) (turn c)))
 
 returns : tie.Need-returns Inv-loop μ-loop
 returns c =
     let e : c .before .loop .j ≡ c .before .before .before .args .radius = omega arith in
-    rw (c .before .loop .inv .1, e)
+    rw (c .before .loop .inv .2, e)
 
 pub first-window-spec : {M : Type 1} → statement M
 first-window-spec =
@@ -67,9 +66,8 @@ first-window-spec =
     μ-loop
     ahead-requires
     loop-holds
-    ahead-requires-2
     add-ahead
-    ahead-requires-3
+    ahead-requires-2
     add-s
     add-s-2
     add-j

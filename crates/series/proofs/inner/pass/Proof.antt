@@ -1,9 +1,9 @@
--- `inner::pass` meets its contract. The loop's invariant: w is the window around n, and the first n cells are the pass's. Assumes nothing.
-use Prim.Native.Nat.{_-_, _≤_}
+-- Before cell n, w is the window around n and lo the cell before it; the first n cells are the pass's.
+use Prim.Native.Nat.{_+_, _-_, _≤_}
 use mathlib.Core.Path.{_≡_, refl, _∙_}
 use native.Mathlib.Omega.{arith}
 use lib.ListN.{length, take, length-set}
-use lib.IntN.{pos}
+use lib.IntN.{pos, _-ℤ_}
 use mir.Syntax.{w64}
 use mir.Val.{toZ, ofZ}
 use mir.Facts.{toZ-ofZ, toZ-pos}
@@ -13,18 +13,19 @@ use Rattle.meaning.specs.Smoothing as S
 use Rattle.theory.specs.Passes.{length-pass}
 use Rattle.theory.specs.Slide.{window}
 use Rattle.series.specs.Fill.{fill-next, fill-done}
-use Rattle.series.specs.Turn.{Turn, summable, cell-is, cell-fits, slide-is, slide-fits}
+use Rattle.series.specs.Turn.{Turn, summable, cell-is, cell-fits, low-next, slide-is, slide-fits}
 use Rattle.series.proofs.inner.pass.Statement.{statement}
 use Rattle.series.proofs.inner.pass.Tie as tie
 
 abbrev Inv-loop : tie.InvT-loop
-Inv-loop src dst₀ radius inner edge w₀ n₀ dst w n =
+Inv-loop src dst₀ radius inner edge w₀ lo₀ n₀ dst w lo n =
     (n ≤ length src) × (length dst ≡ length src)
     × (toZ w64 w ≡ window (ext fold src) radius (pos n))
+    × (toZ w64 lo ≡ ext fold src (pos n -ℤ pos (radius + 1)))
     × (take n dst ≡ take n (S.pass fold (record { radius = radius; inner = inner; edge = edge }) src))
 
 abbrev μ-loop : tie.MeasureT-loop
-μ-loop src dst₀ radius inner edge w₀ n₀ dst w n = length src - n
+μ-loop src dst₀ radius inner edge w₀ lo₀ n₀ dst w lo n = length src - n
 
 cast-inner : tie.Need-cast-inner Inv-loop μ-loop
 cast-inner c = search needs
@@ -35,14 +36,14 @@ cast-edge c = search needs
 first-window-requires : tie.Need-first-window-requires Inv-loop μ-loop
 first-window-requires c κs = summable (c .before .before .pre)
 
-loop-holds : tie.Need-loop-holds Inv-loop μ-loop
-loop-holds c = (search needs, search needs, toZ-ofZ (sfits-of (c .first-window .ok)) ∙ c .first-window .ensures, refl)
-
 add-behind : tie.Need-add-behind Inv-loop μ-loop
 add-behind c = search needs
 
 behind-requires : tie.Need-behind-requires Inv-loop μ-loop
 behind-requires c κs = search needs
+
+loop-holds : tie.Need-loop-holds Inv-loop μ-loop
+loop-holds c = (omega arith, search needs, toZ-ofZ (sfits-of (c .before .first-window .ok)) ∙ c .before .first-window .ensures, toZ-ofZ (sfits-of (c .behind .ok)) ∙ c .behind .ensures, refl)
 
 behind-requires-2 : tie.Need-behind-requires-2 Inv-loop μ-loop
 behind-requires-2 c κs = search needs
@@ -58,13 +59,13 @@ ahead-requires c κs = search needs
 
 turn : (c : tie.After-ahead Inv-loop μ-loop) →
     let start = c .before .before .before .before .before .before .before .before in
-    let l = c .before .before .before .before .loop in
-    Turn (start .args .plan) (start .args .src .now) (l .n) (toZ w64 (start .args .plan .inner)) (toZ w64 (start .args .plan .edge)) (toZ w64 (l .w)) (toZ w64 (ofZ w64 (c .before .before .behind .result))) (toZ w64 (ofZ w64 (c .before .behind2 .result))) (toZ w64 (ofZ w64 (c .ahead .result)))
+    let l = c .before .before .before .loop in
+    Turn (start .args .plan) (start .args .src .now) (l .n) (toZ w64 (start .args .plan .inner)) (toZ w64 (start .args .plan .edge)) (toZ w64 (l .w)) (toZ w64 (l .lo)) (toZ w64 (ofZ w64 (c .before .behind2 .result))) (toZ w64 (ofZ w64 (c .ahead .result)))
 turn c = record {
   inner = toZ-pos w64 (omega arith);
   edge = toZ-pos w64 (omega arith);
-  sum = c .before .before .before .before .loop .inv .2;
-  low = search needs;
+  sum = c .before .before .before .loop .inv .2;
+  low = c .before .before .before .loop .inv .3;
   leaves = search needs;
   enters = search needs;
 }
@@ -89,13 +90,14 @@ loop-less c = search needs
 
 loop-again : tie.Need-loop-again Inv-loop μ-loop
 loop-again c =
-    let l = c .before .before .before .before .before .before .loop in
+    let l = c .before .before .before .before .before .loop in
     let start = c .before .before .before .before .before .before .before .before .before .before in
     let t = turn (c .before .before) in (
       omega arith,
       simp length-set (l .inv .1),
       toZ-ofZ (sfits-of (c .slide .ok)) ∙ c .slide .ensures ∙ slide-is (start .pre) t,
-      fill-next _ (l .dst) (l .n) (l .inv .3) _ (omega arith) (rw length-pass (omega arith)) (toZ-ofZ (sfits-of (c .before .cell .ok)) ∙ cell-is (start .pre) t (c .before .cell .ensures) (omega arith)),
+      low-next (start .pre) t,
+      fill-next _ (l .dst) (l .n) (l .inv .4) _ (omega arith) (rw length-pass (omega arith)) (toZ-ofZ (sfits-of (c .before .cell .ok)) ∙ cell-is (start .pre) t (c .before .cell .ensures) (omega arith)),
     )
 
 same-length : tie.Need-same-length Inv-loop μ-loop
@@ -104,7 +106,7 @@ same-length c = search needs
 returns : tie.Need-returns Inv-loop μ-loop
 returns c =
     let l = c .before .loop in
-    fill-done _ (l .dst) (l .n) (l .inv .3) (omega arith) (rw length-pass (omega arith))
+    fill-done _ (l .dst) (l .n) (l .inv .4) (omega arith) (rw length-pass (omega arith))
 
 pub pass-spec : {M : Type 1} → statement M
 pass-spec =
@@ -115,9 +117,9 @@ pass-spec =
     cast-inner
     cast-edge
     first-window-requires
-    loop-holds
     add-behind
     behind-requires
+    loop-holds
     behind-requires-2
     add-ahead
     add-ahead-2
