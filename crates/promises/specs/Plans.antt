@@ -1,19 +1,19 @@
 -- A plan by itself: `Plan::new`, `Plan::divisor`, `Plan::reach`, each by its own contract.
+--   new-is                            the stages of a new plan are those of its four numbers
+--   divisor-is                        of a plan that calls accept under some bound the divisor is D^K, with D = (2r+1)b + 2a
+--   reach-with-edge, reach-without    and the reach K(r+1) where the edge weight is above 0, else K·r
+--   divisor-refused, reach-refused    of any other plan they are 0
 --   new-one, divisor-one, reach-one   two answers that the contract allows are the same
---   divisor-is                        of an allowed plan whose D^K is at most the largest result, the divisor is D^K
---   divisor-large, divisor-refused    of any other it is 0
---   reach-with-edge, reach-without    the reach of an allowed plan: K(r+1) where the edge weight is above 0, else K·r
---   reach-refused                     of any other it is 0
-use Prim.Native.Nat.{ℕ, _+_, _*_, _^_, _≤_, _<_}
-use mathlib.Core.Path.{_≡_, sym, _∙_}
+use Prim.Native.Nat.{_+_, _*_, _^_, _<_}
+use mathlib.Core.Path.{_≡_, sym, ap, _∙_}
 use contract.Lifetimes.{Lfts}
 use denote.Triple.Clauses.{AtExit}
 use borrow.Fn.Kinds.{Dens, resT, endedOf}
-use Rattle.meaning.specs.Limits.{maxResult}
-use Rattle.meaning.specs.Kernel.{divisor}
+use Rattle.meaning.specs.Kernel.{plan}
+use Rattle.meaning.specs.Bounds.{AcceptedPlan}
 use Rattle.theory.specs.Stages.{divisor-plan, reach-edged, reach-plain}
-use Rattle.theory.specs.Accepted.{planDivisor-done, planDivisor-large, planDivisor-refused, planReach-done, planReach-refused}
-use Rattle.plan.specs.Structs.{stagesOf, AllowedPlan}
+use Rattle.theory.specs.Accepted.{accepted-divisor, accepted-reach, no-divisor, no-reach}
+use Rattle.plan.specs.Structs.{stagesOf}
 use Rattle.plan.proofs.Plan.new.Reads as new
 use Rattle.plan.proofs.Plan.new.Kinds as new-kinds
 use Rattle.plan.proofs.Plan.divisor.Reads as divisor-of
@@ -30,28 +30,22 @@ divisor-one κs a r r′ s s′ g h = g ∙ sym h
 pub reach-one : (κs : Lfts 0) (a : Dens κs reach-kinds.ps) (r r′ : resT reach-kinds.r κs .Denot) (s s′ : AtExit (endedOf 0 reach-kinds.ps reach-kinds.r) κs) → reach-of.Learnt κs a r s → reach-of.Learnt κs a r′ s′ → r ≡ r′
 reach-one κs a r r′ s s′ g h = g ∙ sym h
 
+pub new-is : (κs : Lfts 0) (a : Dens κs new-kinds.ps) (r : resT new-kinds.r κs .Denot) (s : AtExit (endedOf 0 new-kinds.ps new-kinds.r) κs) → new.Learnt κs a r s → stagesOf r ≡ plan (a .0) (a .1 .0) (a .1 .1 .0) (a .1 .1 .1 .0)
+new-is κs a r s h = ap stagesOf h
+
 module _ (κs : Lfts 0) (a : Dens κs divisor-kinds.ps) (r : resT divisor-kinds.r κs .Denot) (s : AtExit (endedOf 0 divisor-kinds.ps divisor-kinds.r) κs) (h : divisor-of.Learnt κs a r s) where
-  abbrev D : ℕ
-  D = ((2 * a .0 .radius + 1) * a .0 .inner + 2 * a .0 .edge) ^ a .0 .passes
+  pub divisor-is : AcceptedPlan (stagesOf (a .0)) → r ≡ ((2 * a .0 .radius + 1) * a .0 .inner + 2 * a .0 .edge) ^ a .0 .passes
+  divisor-is ok = h ∙ accepted-divisor (stagesOf (a .0)) ok ∙ divisor-plan (a .0 .radius) (a .0 .inner) (a .0 .edge) (a .0 .passes)
 
-  D-is : divisor (stagesOf (a .0)) ≡ D
-  D-is = divisor-plan (a .0 .radius) (a .0 .inner) (a .0 .edge) (a .0 .passes)
-
-  pub divisor-is : AllowedPlan (a .0) → D ≤ maxResult → r ≡ D
-  divisor-is ok l = h ∙ planDivisor-done _ _ _ _ ok (rw D-is l) ∙ D-is
-
-  pub divisor-large : AllowedPlan (a .0) → maxResult < D → r ≡ 0
-  divisor-large ok l = h ∙ planDivisor-large _ _ _ _ ok (rw D-is l)
-
-  pub divisor-refused : (AllowedPlan (a .0) → ⊥) → r ≡ 0
-  divisor-refused n = h ∙ planDivisor-refused _ _ _ _ n
+  pub divisor-refused : (AcceptedPlan (stagesOf (a .0)) → ⊥) → r ≡ 0
+  divisor-refused n = h ∙ no-divisor (stagesOf (a .0)) n
 
 module _ (κs : Lfts 0) (a : Dens κs reach-kinds.ps) (r : resT reach-kinds.r κs .Denot) (s : AtExit (endedOf 0 reach-kinds.ps reach-kinds.r) κs) (h : reach-of.Learnt κs a r s) where
-  pub reach-with-edge : AllowedPlan (a .0) → 0 < a .0 .edge → r ≡ a .0 .passes * (a .0 .radius + 1)
-  reach-with-edge ok l = h ∙ planReach-done _ _ _ _ ok ∙ reach-edged (a .0 .radius) (a .0 .inner) (a .0 .edge) (a .0 .passes) l
+  pub reach-with-edge : AcceptedPlan (stagesOf (a .0)) → 0 < a .0 .edge → r ≡ a .0 .passes * (a .0 .radius + 1)
+  reach-with-edge ok l = h ∙ accepted-reach (stagesOf (a .0)) ok ∙ reach-edged (a .0 .radius) (a .0 .inner) (a .0 .edge) (a .0 .passes) l
 
-  pub reach-without : AllowedPlan (a .0) → a .0 .edge ≡ 0 → r ≡ a .0 .passes * a .0 .radius
-  reach-without ok e = h ∙ planReach-done _ _ _ _ ok ∙ rw e (reach-plain (a .0 .radius) (a .0 .inner) (a .0 .passes))
+  pub reach-without : AcceptedPlan (stagesOf (a .0)) → a .0 .edge ≡ 0 → r ≡ a .0 .passes * a .0 .radius
+  reach-without ok e = h ∙ accepted-reach (stagesOf (a .0)) ok ∙ rw e (reach-plain (a .0 .radius) (a .0 .inner) (a .0 .passes))
 
-  pub reach-refused : (AllowedPlan (a .0) → ⊥) → r ≡ 0
-  reach-refused n = h ∙ planReach-refused _ _ _ _ n
+  pub reach-refused : (AcceptedPlan (stagesOf (a .0)) → ⊥) → r ≡ 0
+  reach-refused n = h ∙ no-reach (stagesOf (a .0)) n

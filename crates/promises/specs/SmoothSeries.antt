@@ -1,4 +1,5 @@
--- Smoothing a series. Every theorem is of `series::smooth_series` by its own contract, for all inputs: that it ends is the language's.
+-- Smoothing a series. The theorems are of `series::smooth_series` by its own contract, for all inputs; kernel-over, which needs none, says what a result is over.
+-- That it ends is the language's.
 --   Call               what a call was given, answered and left; its rows, and the bounds it is Allowed by
 --   lowest-number      demand 1: the number is 0, or that of a row that applies, and then the lowest of those
 --   done-exactly       the number is 0 exactly where no row applies
@@ -23,13 +24,13 @@ use Rattle.meaning.specs.Extension.{at, fold, ext}
 use Rattle.meaning.specs.Kernel.{kernel, width}
 use Rattle.meaning.specs.Smoothing.{convolved, result, results}
 use Rattle.meaning.specs.Refusals as meant
-use Rattle.meaning.specs.Refusals.{Row, firstOf, rowAt, planRows, sizeRows, seriesOf, zeros}
+use Rattle.meaning.specs.Refusals.{Row, firstOf, Applies, rowAt, planRows, sizeRows, seriesOf, zeros}
 use Rattle.meaning.specs.Calls.{smoothRows, smoothed}
 use Rattle.meaning.specs.Bounds.{AllowedSeries, FirstAbove}
 use Rattle.theory.specs.Convolution.{kernel-sum}
 use Rattle.theory.specs.Stages.{divisor-plan}
 use Rattle.theory.specs.Passes.{length-results, at-results}
-use Rattle.theory.specs.Refusals.{Rising, Applies, first-applies, first-lowest, done-none, none-done, ifDone-done, ifDone-refused}
+use Rattle.theory.specs.Refusals.{Numbered, Rising, first-applies, first-lowest, done-none, none-done, ifDone-done, ifDone-refused}
 use Rattle.theory.specs.Accepted.{series-allowed, allowed-series, series-position, series-no-position}
 use Rattle.plan.specs.declared.Plan.{Plan}
 use Rattle.plan.specs.declared.Answer.{Answer}
@@ -52,11 +53,15 @@ abbrev pub rows : Call → List Row
 rows c = smoothRows (seriesOf (stagesOf (c .plan)) (length (c .samples))) (c .bound) (c .samples) (length (c .results)) (length (c .work))
 
 abbrev pub Allowed : Call → Type 0
-Allowed c = AllowedSeries (c .plan .radius) (c .plan .inner) (c .plan .edge) (c .plan .passes) (c .bound) (c .samples) (length (c .results)) (length (c .work))
+Allowed c = AllowedSeries (stagesOf (c .plan)) (c .bound) (c .samples) (length (c .results)) (length (c .work))
 
 rising : (c : Call) → Rising (rows c)
 unfolding smoothRows planRows sizeRows rowAt
 rising c = tt
+
+numbered : (c : Call) → Numbered (rows c)
+unfolding smoothRows planRows sizeRows rowAt
+numbered c = tt
 
 -- any call of the function, as its contract lets it end
 module _ (κs : Lfts 3) (a : Dens κs kinds.ps) (r : resT kinds.r κs .Denot) (s : AtExit (endedOf 3 kinds.ps kinds.r) κs) where
@@ -87,13 +92,13 @@ module _ (κs : Lfts 3) (a : Dens κs kinds.ps) (r : resT kinds.r κs .Denot) (s
     lowest-number = rw number-is (first-applies (rows call), λ n k. first-lowest (rows call) (rising call) k)
 
     pub done-exactly : (number ≡ 0 → (n : ℕ) → Applies n (rows call) → ⊥) × (((n : ℕ) → Applies n (rows call) → ⊥) → number ≡ 0)
-    done-exactly = rw number-is (λ e n k. done-none (rows call) (rising call) e k, none-done (rows call))
+    done-exactly = rw number-is (λ e n k. done-none (rows call) (numbered call) e k, none-done (rows call))
 
     pub position-first : number ≡ 11 → FirstAbove (call .bound) (call .samples) (call .answer .position)
-    position-first e = series-position (call .plan .radius) (call .plan .inner) (call .plan .edge) (call .plan .passes) (call .bound) (call .samples) (length (call .results)) (length (call .work)) answer-is e
+    position-first e = series-position (stagesOf (call .plan)) (call .bound) (call .samples) (length (call .results)) (length (call .work)) answer-is e
 
     pub position-other : (number ≡ 11 → ⊥) → call .answer .position ≡ 0
-    position-other h = series-no-position (call .plan .radius) (call .plan .inner) (call .plan .edge) (call .plan .passes) (call .bound) (call .samples) (length (call .results)) (length (call .work)) answer-is h
+    position-other h = series-no-position (stagesOf (call .plan)) (call .bound) (call .samples) (length (call .results)) (length (call .work)) answer-is h
 
     pub refused-unchanged : (number ≡ 0 → ⊥) → (call .resultsLeft ≡ call .results) × (call .workLeft ≡ call .work)
     unfolding smoothed
@@ -102,10 +107,10 @@ module _ (κs : Lfts 3) (a : Dens κs kinds.ps) (r : resT kinds.r κs .Denot) (s
         (h .results ∙ ifDone-refused _ _ _ refused, h .work ∙ ifDone-refused _ _ _ refused)
 
     pub done-allowed : number ≡ 0 → Allowed call
-    done-allowed e = series-allowed _ _ _ _ _ _ _ _ (sym number-is ∙ e)
+    done-allowed e = series-allowed _ _ _ _ _ (sym number-is ∙ e)
 
     pub allowed-done : Allowed call → number ≡ 0
-    allowed-done ok = number-is ∙ ap (λ (x : meant.Answer). x .number) (allowed-series _ _ _ _ _ _ _ _ ok)
+    allowed-done ok = number-is ∙ ap (λ (x : meant.Answer). x .number) (allowed-series _ _ _ _ _ ok)
 
     module _ (e : number ≡ 0) where
       whole : call .resultsLeft ≡ results fold (stagesOf (call .plan)) (call .samples)

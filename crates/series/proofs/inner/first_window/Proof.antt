@@ -23,9 +23,7 @@ ahead-requires : tie.Need-ahead-requires Inv-loop μ-loop
 ahead-requires c κs = search needs
 
 loop-holds : tie.Need-loop-holds Inv-loop μ-loop
-loop-holds c =
-    let first = toZ-ofZ (sfits-of (c .ahead .ok)) ∙ c .ahead .ensures in
-    (omega arith, first, first ∙ sym (window-none _ _))
+loop-holds c = (omega arith, toZ-ofZ (sfits-of (c .ahead .ok)) ∙ c .ahead .ensures, toZ-ofZ (sfits-of (c .ahead .ok)) ∙ c .ahead .ensures ∙ sym (window-none _ _))
 
 add-ahead : tie.Need-add-ahead Inv-loop μ-loop
 add-ahead c = search needs
