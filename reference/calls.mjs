@@ -3,17 +3,11 @@
 // Whole numbers are BigInt, since any 64-bit number may be asked; a plain number in an answer is a double.
 // Samples and whole cells are Int32Array, results and work BigInt64Array, doubles Float64Array.
 import {
+  MOST_BOUND, MOST_CELLS, MOST_INNER, MOST_PASSES, MOST_PRODUCT, MOST_RADIUS, MOST_SIDE, MOST_SIGMA, outside, size,
+} from './limits.mjs';
+import {
   divisorOf, kernelOf, pictureResults, planFor, reachOf, resultAt, seriesResults, weightAt,
 } from './smoothing.mjs';
-
-const MOST_PASSES = 8n;
-const MOST_RADIUS = 1023n;
-const MOST_INNER = 255n;
-const MOST_BOUND = 2n ** 31n - 1n;
-const MOST_PRODUCT = 2n ** 53n - 1n;
-const MOST_CELLS = 65_536n;
-const MOST_SIDE = 4_096n;
-const MOST_SIGMA = 25_600n;
 
 const DONE = { number: 0n, position: 0n };
 
@@ -23,14 +17,6 @@ function refuse(number, position = 0) {
 
 function refuseIf(applies, number) {
   return applies ? refuse(number) : null;
-}
-
-function size(value) {
-  return value < 0n ? -value : value;
-}
-
-function outside(value, least, most) {
-  return value < least || value > most;
 }
 
 // Refusals. Each gives null when its numbers do not apply. A call chains them with ??, in the order of the numbers,
@@ -197,11 +183,10 @@ export function planner({ sigma, passes, inner }) {
   return { ...DONE, ...found };
 }
 
-// A plan by itself. Its divisor is 0 where it is refused under every bound, and the least bound is 1.
+// A plan by itself. Its divisor and its reach are 0 where it is refused under every bound; the least bound is 1.
 export function planByItself({ plan }) {
-  if (plansRefused([plan])) return { divisor: 0n, reach: 0n };
-  const divisor = divisorOf(plan);
-  return { divisor: divisor > MOST_PRODUCT ? 0n : divisor, reach: BigInt(reachOf(plan)) };
+  if (limitsRefused([plan], 1n)) return { divisor: 0n, reach: 0n };
+  return { divisor: divisorOf(plan), reach: BigInt(reachOf(plan)) };
 }
 
 // Doubles in.

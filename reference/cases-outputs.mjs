@@ -45,7 +45,7 @@ const DOUBLES_EDGES = [
 
 function doublesInFaults() {
   const good = doublesInCase('', 1000, [5, -3, 1000]).args;
-  return faultCases(good, [
+  return faultCases(6, good, [
     ...BOUND_FAULTS,
     fault(7, 'no doubles', () => ({ doubles: [], samples: [] })),
     ...lengthFaults('samples'),
@@ -157,8 +157,8 @@ function resultFaults() {
   ];
 }
 
-function seriesOutputs(seed, cells) {
-  const lists = [...RESULT_LISTS, ...chosenSeriesLists(chance(seed))];
+function seriesOutputs(call, cells) {
+  const lists = [...RESULT_LISTS, ...chosenSeriesLists(chance(200 + call))];
   const listed = lists.map(([note, chosen, bound, results]) => (
     { note, args: withCells({ plan: chosen, bound, results }, cells) }));
   const good = withCells({ plan: EIGHT, bound: 1000, results: [5, -3] }, cells);
@@ -168,7 +168,7 @@ function seriesOutputs(seed, cells) {
     ...(cells ? lengthFaults('cells') : []),
     ...resultFaults(),
   ];
-  return [...listed, ...faultCases(good, faults)];
+  return [...listed, ...faultCases(call, good, faults)];
 }
 
 // The lists again as pictures of one row or column, with the plan across or down; and pictures proper.
@@ -214,8 +214,8 @@ function chosenPictureLists(below) {
   });
 }
 
-function pictureOutputs(seed, cells) {
-  const lists = [...PICTURE_LISTS, ...listedPictures(), ...chosenPictureLists(chance(seed))];
+function pictureOutputs(call, cells) {
+  const lists = [...PICTURE_LISTS, ...listedPictures(), ...chosenPictureLists(chance(200 + call))];
   const listed = lists.map(([note, [across, down], bound, [width, height], results]) => (
     { note, args: withCells({ across, down, bound, width, height, results }, cells) }));
   const good = withCells({ across: EIGHT, down: THREE, bound: 1000, width: 1, height: 2, results: [5, -3] }, cells);
@@ -224,15 +224,15 @@ function pictureOutputs(seed, cells) {
     ...lengthFaults('results'), ...(cells ? lengthFaults('cells') : []),
     ...resultFaults(),
   ];
-  return [...listed, ...faultCases(good, faults)];
+  return [...listed, ...faultCases(call, good, faults)];
 }
 
 export const casesOfOutputs = {
   6: doublesInCases,
-  7: () => seriesOutputs(207, WHOLE_CELLS),
-  8: () => seriesOutputs(208, DOUBLE_CELLS),
-  9: () => seriesOutputs(209, NO_CELLS),
-  10: () => pictureOutputs(210, WHOLE_CELLS),
-  11: () => pictureOutputs(211, DOUBLE_CELLS),
-  12: () => pictureOutputs(212, NO_CELLS),
+  7: () => seriesOutputs(7, WHOLE_CELLS),
+  8: () => seriesOutputs(8, DOUBLE_CELLS),
+  9: () => seriesOutputs(9, NO_CELLS),
+  10: () => pictureOutputs(10, WHOLE_CELLS),
+  11: () => pictureOutputs(11, DOUBLE_CELLS),
+  12: () => pictureOutputs(12, NO_CELLS),
 };

@@ -1,5 +1,50 @@
-// Cases of call 100: a plan by itself.
-import { LARGEST_U64, WIDEST, anyPlan, chance, plan, times } from './inputs.mjs';
+// Cases of calls 5 and 100: the planner, and a plan by itself.
+import { LARGEST_U64, WIDEST, anyPlan, chance, pick, plan, times } from './inputs.mjs';
+
+// Call 5.
+
+function plannerCase(note, sigma, passes, inner) {
+  return { note, args: { sigma, passes, inner } };
+}
+
+const PLANNER_EDGES = [
+  plannerCase('example', 500, 3, 16),
+  plannerCase('example', 100, 3, 16),
+  plannerCase('example', 200, 1, 16),
+  plannerCase('least of all', 1, 1, 1),
+  plannerCase('least sigma', 1, 8, 255),
+  plannerCase('largest sigma, one pass', 25_600, 1, 255),
+  plannerCase('largest sigma, eight passes', 25_600, 8, 255),
+  plannerCase('sigma 0', 0, 3, 16),
+  plannerCase('sigma above', 25_601, 3, 16),
+  plannerCase('sigma largest', LARGEST_U64, 3, 16),
+  plannerCase('sigma 2^32', 2 ** 32, 3, 16),
+  plannerCase('passes 0', 500, 0, 16),
+  plannerCase('passes 9', 500, 9, 16),
+  plannerCase('passes largest', 500, LARGEST_U64, 16),
+  plannerCase('inner 0', 500, 3, 0),
+  plannerCase('inner 256', 500, 3, 256),
+  plannerCase('inner largest', 500, 3, LARGEST_U64),
+  plannerCase('1 before 3', 500, 0, 0),
+  plannerCase('1 before 13', 0, 9, 16),
+  plannerCase('3 before 13', 25_601, 3, 256),
+  plannerCase('1 before 3 and 13', LARGEST_U64, LARGEST_U64, LARGEST_U64),
+];
+
+// With one pass r(r+1) meets 3s²/10,000 exactly at these sigmas, where the edge weight is 0.
+const PLANNER_EXACT = [200, 2800].flatMap((sigma) => [-1, 0, 1].map((more) => (
+  plannerCase('about an exact radius', sigma + more, 1, 255))));
+
+function plannerCases() {
+  const below = chance(105);
+  const chosen = times(72, (n) => {
+    const sigma = pick(below, [1 + below(100), 1 + below(1_000), 1 + below(25_600)]);
+    return plannerCase('chosen', sigma, 1 + n % 8, pick(below, [1, 2, 16, 100, 255]));
+  });
+  return [...PLANNER_EDGES, ...PLANNER_EXACT, ...chosen];
+}
+
+// Call 100.
 
 function planCase(note, chosen) {
   return { note, args: { plan: chosen } };
@@ -13,8 +58,9 @@ const PLAN_EXAMPLES = [
   planCase('heaviest weights, two passes', plan(1023, 255, 254, 2)),
   planCase('heaviest weights, three passes', plan(1023, 255, 254, 3)),
   planCase('heaviest weights, eight passes', plan(1023, 255, 254, 8)),
-  planCase('widest reach with a divisor', WIDEST),
-  planCase('widest reach without edge', plan(1023, 1, 0, 8)),
+  planCase('widest reach', WIDEST),
+  planCase('widest reach without edge', plan(1023, 1, 0, 4)),
+  planCase('largest radius without edge, eight passes', plan(1023, 1, 0, 8)),
 ];
 
 // Every number about its limits. The identity has reach 0, so that only the divisor tells it from a refused plan.
@@ -109,4 +155,4 @@ function planCases() {
   return [...PLAN_EXAMPLES, ...PASSES, ...RADII, ...WEIGHTS, ...POWERS, ...WRAPPING, ...WIDE, ...TOGETHER, ...chosen];
 }
 
-export const casesOfPlans = { 100: planCases };
+export const casesOfPlans = { 5: plannerCases, 100: planCases };

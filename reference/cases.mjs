@@ -1,6 +1,7 @@
 // The cases of every call, made the same way each time from a fixed seed: the page's examples, edges, every
 // refusal, every pair of refusals, and chosen inputs. A case is a note and the arguments by name.
 import { casesOfSmoothing } from './cases-smoothing.mjs';
+import { casesOfEdits } from './cases-edits.mjs';
 import { casesOfOutputs } from './cases-outputs.mjs';
 import { casesOfRecords } from './cases-records.mjs';
 import { casesOfPlans } from './cases-plans.mjs';
@@ -27,7 +28,7 @@ export const NUMBERS_GIVEN = {
   14: [0, 7, 8],
 };
 
-const CASES = { ...casesOfSmoothing, ...casesOfOutputs, ...casesOfRecords, ...casesOfPlans };
+const CASES = { ...casesOfSmoothing, ...casesOfEdits, ...casesOfOutputs, ...casesOfRecords, ...casesOfPlans };
 
 // The cases of a call: a note and the call's words.
 export function casesOf(call) {

@@ -1,7 +1,9 @@
 // Ways to spoil a good call, each with the number it should be refused with, and the cases made of them:
 // every fault alone, and two faults of different numbers together, of which the lower number has to win.
 // A fault changes arguments: it is a function from the arguments to those that it replaces.
-import { LARGE, LARGE_BOUND, LARGEST_U64, plan, times } from './inputs.mjs';
+import { applies } from './applies.mjs';
+import { callWords, decoded } from './stream.mjs';
+import { LARGE, LARGE_BOUND, LARGEST_U64, LEAST_I32, plan, times } from './inputs.mjs';
 
 export function fault(number, note, change) {
   return { number, note, change };
@@ -74,20 +76,50 @@ export function put(name, index, value) {
   return (args) => ({ [name]: args[name].map((element, n) => (n === index ? value : element)) });
 }
 
+export const SAMPLE_FAULTS = [
+  fault(11, 'first sample above the bound', (args) => put('samples', 0, Number(args.bound) + 1)(args)),
+  fault(11, 'last sample below minus the bound', (args) => (
+    put('samples', args.samples.length - 1, -Number(args.bound) - 1)(args))),
+  fault(11, 'two samples, the first counts', (args) => (
+    { samples: args.samples.map((sample, n) => (n === 1 || n === 2 ? LEAST_I32 : sample)) })),
+  fault(11, 'least 32-bit sample', put('samples', 2, LEAST_I32)),
+];
+
+export const EMPTY_SERIES = fault(7, 'no samples', () => ({ samples: [], results: [], work: [] }));
+
 function spoilt(args, faults) {
   return faults.reduce((spoiled, { change }) => ({ ...spoiled, ...change(spoiled) }), args);
 }
 
-function pairs(faults) {
+function pairsOfNumbers(faults) {
   const numbers = [...new Set(faults.map(({ number }) => number))].sort((a, b) => a - b);
-  const first = (number) => faults.find((each) => each.number === number);
-  const last = (number) => faults.findLast((each) => each.number === number);
-  return numbers.flatMap((low, at) => numbers.slice(at + 1).map((high) => [first(high), last(low)]));
+  return numbers.flatMap((low, at) => numbers.slice(at + 1).map((high) => [low, high]));
 }
 
-export function faultCases(good, faults) {
+// Whether the lower number is answered, and the higher one would be if it were not for that.
+function bothApply(call, args, low, high) {
+  const read = decoded(callWords(call, args));
+  return read.outcome.number === BigInt(low.number) && applies(high.number, read.args);
+}
+
+// A fault can undo another: under a larger bound a sample is good again, and an empty series has no bad one. So the
+// first two that leave each other are taken, the higher spoiling before the lower, or else after it. Of some numbers
+// there are none: no position is past the end and has an old sample.
+function togetherCase(call, good, lows, highs) {
+  const both = lows.toReversed().flatMap((low) => highs.map((high) => ({ low, high })));
+  const ways = [
+    ...both.map(({ low, high }) => ({ low, high, args: spoilt(good, [high, low]) })),
+    ...both.map(({ low, high }) => ({ low, high, args: spoilt(good, [low, high]) })),
+  ];
+  const way = ways.find(({ low, high, args }) => bothApply(call, args, low, high));
+  if (way === undefined) return [];
+  const { low, high, args } = way;
+  return [{ note: `${low.number} before ${high.number}: ${low.note}, ${high.note}`, args }];
+}
+
+export function faultCases(call, good, faults) {
+  const of = (number) => faults.filter((each) => each.number === number);
   const alone = faults.map((each) => ({ note: `${each.number}: ${each.note}`, args: spoilt(good, [each]) }));
-  const together = pairs(faults).map(([high, low]) => (
-    { note: `${low.number} before ${high.number}: ${low.note}, ${high.note}`, args: spoilt(good, [high, low]) }));
+  const together = pairsOfNumbers(faults).flatMap(([low, high]) => togetherCase(call, good, of(low), of(high)));
   return [...alone, ...together];
 }

@@ -83,6 +83,14 @@ export function anySamples(below, length, bound) {
   return times(length, () => pick(below, [bound, -bound, 0, below(bound + 1), 0 - below(bound + 1), 1, -1]));
 }
 
+// A short series, its plan and bound.
+export function anySeries(below, n) {
+  const chosen = anyPlan(below, 1 + n % 8);
+  const bound = anyBound(below, chosen);
+  const length = 1 + below(9);
+  return { plan: chosen, bound, samples: anySamples(below, length, bound), length };
+}
+
 // What a slice happens to hold before a call.
 export function junk(below, length) {
   return times(length, () => pick(below, [below(19) - 9, below(19) - 9, below(1999) - 999]));

@@ -116,7 +116,8 @@ export function callWords(call, args) {
   return words;
 }
 
-// Why a stream ends within a call: its words are used up, or a slice is too long, which has a line of its own.
+// Why a stream ends within a call: its words are used up, its number is of no call, or a slice is too long, which has
+// a line of its own.
 class Ending extends Error {
   constructor(lines) {
     super();
@@ -147,6 +148,7 @@ class Words {
 
   call() {
     const call = CALLS[this.argument('u64')];
+    if (call === undefined) throw new Ending([]);
     const args = Object.entries(call.takes).map(([name, type]) => [name, this.argument(type)]);
     return { call, args: Object.fromEntries(args) };
   }
@@ -190,7 +192,7 @@ export function decoded(words) {
   return { args, outcome: call.run(args) };
 }
 
-// The lines for these words. A call that the words break off gets no line.
+// The lines for these words. A call that the words break off and a number of no call get no line.
 export function linesFor(words) {
   const stream = new Words(words);
   const lines = [];

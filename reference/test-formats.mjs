@@ -1,0 +1,50 @@
+// The job record and the driver's stream: what is written is read back, and how a stream ends.
+import { readRecord, recordLength, samplesIn, writeRecord } from './record.mjs';
+import { bitsOf, bytesOfWords, callWords, linesFor, wordsOfBytes } from './stream.mjs';
+import { chance } from './inputs.mjs';
+import { holds, numbersOf, plan, same } from './testing.mjs';
+
+function recordFacts() {
+  const below = chance(4);
+  for (let n = 0; n < 40; n++) {
+    const fields = [below(65_536), below(256), below(256), below(256), below(2 ** 32)];
+    const [radius, inner, edge, passes, bound] = fields.map(BigInt);
+    const samples = Int32Array.from({ length: 1 + below(6) }, () => below(2 ** 32) - 2 ** 31);
+    const empty = new Uint8Array(recordLength(samples.length));
+    const { number, record } = writeRecord({ radius, inner, edge, passes, bound, samples, record: empty });
+    const read = readRecord({ record });
+    same('writer number', number, 0);
+    const samplesRead = samplesIn(record, read.start, read.length);
+    same('reader undoes writer', numbersOf(read), [0, ...fields]);
+    same('samples come back', samplesRead, samples);
+    same('writer undoes reader', writeRecord({ ...read, samples: samplesRead, record: empty }).record, record);
+    holds('every cut is refused', Array.from(record, (_, cut) => readRecord({ record: record.slice(0, cut) }).number)
+      .every((each) => each === 14n));
+  }
+  same('record of 1024 samples', recordLength(1_024), 4_123);
+}
+
+function streamFacts() {
+  const args = { plan: plan(1, 2, 1, 1), bound: 8n, samples: [8, 0, 0], results: [1, -1, 2], work: [3, 3, 3] };
+  const words = callWords(1, args);
+  same('line', linesFor(words), ['0 0 32 24 8 0 0 0']);
+  same('refused line', linesFor(callWords(1, { ...args, bound: 7n })), ['11 0 1 -1 2 3 3 3']);
+  same('bytes', linesFor(wordsOfBytes(bytesOfWords([...words, ...words]))), new Array(2).fill('0 0 32 24 8 0 0 0'));
+  same('line of a plan', linesFor(callWords(100, { plan: plan(1, 2, 1, 8) })), ['16777216 16']);
+  same('first bytes', bytesOfWords([-2n]), [255, 255, 255, 255, 255, 255, 255, 254]);
+  same('slice too long', linesFor([...words, 13n, 131_073n]), ['0 0 32 24 8 0 0 0', 'stop']);
+  same('negative length', linesFor([13n, -1n]), ['stop']);
+  same('call broken off', linesFor([...words, ...words.slice(0, 9)]), ['0 0 32 24 8 0 0 0']);
+  for (const none of [0n, 15n, 99n, 101n, 2n ** 32n + 1n, -1n]) {
+    same(`call ${none}`, linesFor([...words, none, ...words]), ['0 0 32 24 8 0 0 0']);
+  }
+  same('bits', [bitsOf(0), bitsOf(-0), bitsOf(1)], [0n, 2n ** 63n, 0x3ff0000000000000n]);
+  const many = new Array(65).fill(-1);
+  same('checksum', linesFor(callWords(1, { ...args, samples: many, results: many, work: [] })),
+    [`8 0 # 65 ${2 ** 31 - 1 - (65 * 66) / 2}`]);
+}
+
+export function testFormats() {
+  recordFacts();
+  streamFacts();
+}
