@@ -1,3 +1,4 @@
+-- Rows 1 to 8, and where none applies row 11.
 use borrow.Author.Needs.{needs}
 use Rattle.plan.specs.Structs.{stagesOf}
 use Rattle.series.specs.Steps.{test-refused, test-rest}

@@ -1,3 +1,4 @@
+-- Refused, nothing was touched; done, the passes are the results and work was cleared.
 use mathlib.Core.Path.{_≡_}
 use native.Mathlib.Omega.{arith}
 use lib.ListN.{length}

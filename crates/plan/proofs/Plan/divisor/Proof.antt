@@ -1,3 +1,4 @@
+-- The product of 1 and the divisor, capped: at most the largest result, it is the divisor; above, no bound lets the plan pass.
 use borrow.Author.Needs.{needs}
 use Rattle.plan.specs.Tested.{Tested}
 use Rattle.plan.specs.Tested.{plan-passed, divisor-failed, divisor-large, divisor-done}

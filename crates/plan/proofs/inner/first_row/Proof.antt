@@ -1,3 +1,4 @@
+-- The tests that were passed are false, and the one that was not is true.
 use borrow.Author.Needs.{needs}
 use Rattle.meaning.specs.Refusals.{firstOf}
 use Rattle.plan.proofs.inner.first_row.Statement.{statement}

@@ -1,3 +1,4 @@
+-- Two tests, one after the other.
 use borrow.Author.Tests.{eq-eqb, ne-eqb}
 use Rattle.plan.proofs.inner.lengths_differ.Statement.{statement}
 use Rattle.plan.proofs.inner.lengths_differ.Tie as tie

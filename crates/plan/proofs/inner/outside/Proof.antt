@@ -1,3 +1,4 @@
+-- Two tests, one after the other.
 use borrow.Author.Tests.{lt-ltb, le-ltb}
 use Rattle.plan.proofs.inner.outside.Statement.{statement}
 use Rattle.plan.proofs.inner.outside.Tie as tie

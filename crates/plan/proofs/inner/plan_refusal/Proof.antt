@@ -1,3 +1,4 @@
+-- Of K equal stages, rows 1 to 4 are tests of the plan's numbers.
 use borrow.Author.Needs.{needs}
 use Rattle.plan.specs.Tested.{plan-tested}
 use Rattle.plan.proofs.inner.plan_refusal.Statement.{statement}

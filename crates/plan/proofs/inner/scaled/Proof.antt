@@ -1,3 +1,4 @@
+-- After k factors the product is x times D^k, capped.
 use Prim.Native.Nat.{ℕ, _+_, _*_, _-_, _^_, _≤_}
 use mathlib.Core.Path.{_≡_, sym, ap, _∙_}
 use native.Mathlib.Nat.{mul-assoc, mul-one, pow-suc, pow-zero}

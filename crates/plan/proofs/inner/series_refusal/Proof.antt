@@ -1,3 +1,4 @@
+-- Rows 1 to 4, and where none applies rows 5 to 8; row 6 reads a capped product as the true one.
 use mathlib.Core.Path.{_∙_, ap}
 use borrow.Author.Needs.{needs}
 use Rattle.meaning.specs.Refusals.{firstOf}

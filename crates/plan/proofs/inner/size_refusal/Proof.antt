@@ -1,3 +1,4 @@
+-- Rows 5 to 8 are four tests in a row.
 use mathlib.Core.Path.{_∙_}
 use borrow.Author.Needs.{needs}
 use Rattle.meaning.specs.Refusals.{sizeRows}

@@ -1,3 +1,4 @@
+-- The definition's own sum; an allowed plan's is far below 2^64.
 use Prim.Native.Nat.{_+_, _*_, _≤_}
 use native.Mathlib.Nat.{mul-le-mul}
 use native.Mathlib.Omega.{arith}

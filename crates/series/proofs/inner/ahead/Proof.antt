@@ -1,4 +1,4 @@
--- `inner::ahead` meets its contract. Assumes nothing.
+-- The fold stays within the series.
 use Prim.Native.Nat.{_<_}
 use mathlib.Core.Path.{ap, _∙_}
 use lib.ListN.{length}

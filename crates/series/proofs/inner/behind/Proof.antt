@@ -1,4 +1,4 @@
--- `inner::behind` meets its contract. Assumes nothing.
+-- What stands at -1 - j stands at j.
 use Prim.Native.Nat.{ℕ, _-_, _<_}
 use mathlib.Core.Path.{_≡_, sym, ap, _∙_}
 use mathlib.Core.List.{List}

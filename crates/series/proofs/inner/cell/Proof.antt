@@ -1,4 +1,4 @@
--- `inner::cell` meets its contract. Assumes nothing.
+-- Every number on the way fits, as asked.
 use mir.Facts.{toZ-ofZ}
 use borrow.Author.Needs.{needs}
 use Rattle.series.proofs.inner.cell.Statement.{statement}

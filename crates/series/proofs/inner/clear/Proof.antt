@@ -1,4 +1,4 @@
--- `inner::clear` meets its contract. The loop's invariant: the first i cells are 0. Assumes nothing.
+-- Before turn i the first i cells are 0.
 use Prim.Native.Nat.{_-_, _≤_}
 use mathlib.Core.Path.{_≡_, sym}
 use native.Mathlib.Omega.{arith}

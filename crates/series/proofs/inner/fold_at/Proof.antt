@@ -1,4 +1,4 @@
--- `inner::fold_at` meets its contract. Assumes nothing.
+-- Within the series the fold is the identity; beyond, the remainder by 2 len is reflected.
 use Prim.Native.Nat.{_*_}
 use mathlib.Core.Path.{sym}
 use native.Mathlib.Nat.{mod-lt}

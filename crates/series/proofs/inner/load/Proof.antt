@@ -1,4 +1,4 @@
--- `inner::load` meets its contract. The loop's invariant: the first i cells are copied. Assumes nothing.
+-- Before turn i the first i cells are copied.
 use Prim.Native.Nat.{_-_, _≤_}
 use mathlib.Core.Path.{_≡_, _∙_}
 use native.Mathlib.Omega.{arith}
