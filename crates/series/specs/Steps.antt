@@ -1,7 +1,7 @@
 -- The steps of a smoothing call, each over plain lists.
 -- Laws: test-refused, test-rest (the rows in two parts, as the code tests them); ready (what an answer of 0 leaves), swapped;
 -- passable (each pass has room), after-none, after-next; call-refused, call-done.
-use Prim.Native.Nat.{ℕ, suc, _*_, _-_, _<_}
+use Prim.Native.Nat.{ℕ, suc, _*_, _<_}
 use mathlib.Core.Path.{_≡_, refl, sym, _∙_, ap}
 use mathlib.Core.Bool.{Bool, true, _||_, _&&_}
 use mathlib.Core.List.{List, [], _∷_, _++_}

@@ -5,7 +5,7 @@
 -- kernel-append (of stages one after the other: the two kernels' convolution), kernel-sum.
 use mathlib.Core.Path.{_≡_, sym, _∙_, ap, ap₂}
 use mathlib.Core.List.{List, [], _∷_, _++_}
-use Prim.Native.Nat.{ℕ, suc, _+_, _*_, _≤_}
+use Prim.Native.Nat.{ℕ, suc, _≤_}
 use native.Mathlib.Omega.{arith}
 use lib.IntN.{ℤ, pos, negℤ, natAbs, _+ℤ_, _-ℤ_, _*ℤ_, *ℤ-comm, +ℤ-idr}
 use lib.Signed.{_≤ℤ_}

@@ -4,7 +4,7 @@
 -- reach-order, convolved-order, divisor-order, kernel-order, result-order, results-order.
 use mathlib.Core.Path.{_≡_, refl, sym, _∙_, ap}
 use mathlib.Core.List.{List, [], _∷_, _++_, append-nil}
-use Prim.Native.Nat.{_+_}
+use Prim.Native.Nat.{}
 use native.Mathlib.Nat.{mul-one}
 use native.Mathlib.Omega.{arith}
 use lib.ListN.{length}

@@ -1,7 +1,7 @@
 -- How large results grow: samples of size up to M give results of size up to M times the divisor, and so after every pass.
 -- Laws: passAt-size, convolved-size; ext-size, pass-size; result-size, results-size.
 use mathlib.Core.List.{List, [], _∷_}
-use Prim.Native.Nat.{ℕ, _*_, _-_}
+use Prim.Native.Nat.{ℕ, _*_}
 use native.Mathlib.Nat.{mul-one, mul-comm}
 use lib.ListN.{length}
 use lib.IntN.{ℤ, pos, _-ℤ_}

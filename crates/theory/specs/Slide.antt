@@ -8,7 +8,7 @@
 -- Laws: window-none (of radius 0), window-grow, window-range, window-slide, passAt-window, passAt-slide;
 -- window-size, step-size.
 use mathlib.Core.Path.{_≡_, refl, sym, _∙_, ap}
-use Prim.Native.Nat.{ℕ, suc, _+_, _*_, _-_, _≤_, _<_}
+use Prim.Native.Nat.{ℕ, suc, _+_, _*_, _≤_, _<_}
 use native.Mathlib.Nat.{le-mul-of-pos-right}
 use native.Mathlib.Omega.{arith}
 use lib.IntN.{ℤ, pos, predℤ, sucℤ, _+ℤ_, _-ℤ_, _*ℤ_, -ℤ-one, +ℤ-one, +ℤ-idr, +ℤ-negℤ-cancel}
