@@ -8,7 +8,7 @@ ghost use Rattle.calls.specs.Front.{Counts};
 use crate::output;
 use plan::Plan;
 
-pub fn word(open: &mut bool) -> u64 {
+pub(crate) fn word(open: &mut bool) -> u64 {
     let mut bytes = [0u8; 8];
     if *open && io::read_full(libc::STDIN_FILENO, &mut bytes) == 8 {
         return word_of(bytes);
@@ -17,7 +17,7 @@ pub fn word(open: &mut bool) -> u64 {
     0
 }
 
-pub fn plan(open: &mut bool) -> Plan {
+pub(crate) fn plan(open: &mut bool) -> Plan {
     let radius = word(open);
     let inner = word(open);
     let edge = word(open);
@@ -26,7 +26,7 @@ pub fn plan(open: &mut bool) -> Plan {
 }
 
 // A slice of samples, into the front of room; how many there are.
-pub fn samples(open: &mut bool, room: &mut [i32]) -> usize
+pub(crate) fn samples(open: &mut bool, room: &mut [i32]) -> usize
     ensures { λ r. ⌜ Counts r (now (room .exit)) ⌝ }
 {
     let count = length(open, room.len());
@@ -37,7 +37,7 @@ pub fn samples(open: &mut bool, room: &mut [i32]) -> usize
 }
 
 // The same of 64 bits each.
-pub fn wholes(open: &mut bool, room: &mut [i64]) -> usize
+pub(crate) fn wholes(open: &mut bool, room: &mut [i64]) -> usize
     ensures { λ r. ⌜ Counts r (now (room .exit)) ⌝ }
 {
     let count = length(open, room.len());

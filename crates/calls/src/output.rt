@@ -13,22 +13,22 @@ const MOST_PRINTED: usize = 64;
 const MODULUS: u64 = 2147483647;
 
 // The first two words of a line.
-pub fn answer(answer: Answer) {
+pub(crate) fn answer(answer: Answer) {
     first(answer.number);
     number(answer.position as u64);
 }
 
 // The first word of a line has no space before it.
-pub fn first(n: u64) {
+pub(crate) fn first(n: u64) {
     io::print_decimal(STDOUT_FILENO, n);
 }
 
-pub fn number(n: u64) {
+pub(crate) fn number(n: u64) {
     io::write_all(STDOUT_FILENO, b" ");
     io::print_decimal(STDOUT_FILENO, n);
 }
 
-pub fn wholes(values: &[i64]) {
+pub(crate) fn wholes(values: &[i64]) {
     if values.len() > MOST_PRINTED {
         io::write_all(STDOUT_FILENO, b" #");
         number(values.len() as u64);
@@ -38,12 +38,12 @@ pub fn wholes(values: &[i64]) {
     }
 }
 
-pub fn end_line() {
+pub(crate) fn end_line() {
     io::write_all(STDOUT_FILENO, b"\n");
 }
 
 // What follows a slice that is too long.
-pub fn stop() {
+pub(crate) fn stop() {
     io::write_all(STDOUT_FILENO, b"stop\n");
 }
 

@@ -3,7 +3,7 @@ use crate::input;
 use crate::output;
 
 // Call 100.
-pub fn divisor_and_reach(open: &mut bool) {
+pub(crate) fn divisor_and_reach(open: &mut bool) {
     let plan = input::plan(open);
     if *open {
         output::first(plan.divisor());

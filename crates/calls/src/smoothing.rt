@@ -4,7 +4,12 @@ use crate::output;
 use plan::Plan;
 
 // Call 1.
-pub fn smooth_series(open: &mut bool, samples: &mut [i32], results: &mut [i64], work: &mut [i64]) {
+pub(crate) fn smooth_series(
+    open: &mut bool,
+    samples: &mut [i32],
+    results: &mut [i64],
+    work: &mut [i64],
+) {
     let plan = input::plan(open);
     let bound = input::word(open);
     let n = input::samples(open, samples);

@@ -1,6 +1,6 @@
 -- What the test of rows 1 to 4 says of a plan, and the plan's own divisor and reach after it.
 --   Tested p   rows 1 to 4 do not apply to p, by its numbers
--- Laws: tested, allowed-tested, tested-allowed; plan-tested (the test, row by row), plan-passed;
+-- Laws: allowed-tested, tested-allowed; plan-tested (the test, row by row), plan-passed;
 -- divisor-failed, divisor-large, divisor-done; reach-failed, reach-passed, reach-done.
 use Prim.Native.Nat.{ℕ, _*_, _≤_, _<_}
 use mathlib.Core.Path.{_≡_, sym, _∙_, ap}

@@ -5,6 +5,7 @@ ghost use mathlib.Core.List.{[], _∷_};
 ghost use Prim.Native.Nat.{_+_, _*_, _≤_};
 ghost use lib.ListN.{length};
 ghost use lib.IntN.{natAbs};
+ghost use Rattle.meaning.specs.Limits.{least, maxPasses, maxRadius, maxInner, maxBound, maxResult, maxLength, maxSide};
 ghost use Rattle.meaning.specs.Kernel.{tapSum, tapReach, divisor};
 ghost use Rattle.meaning.specs.Refusals as R;
 ghost use Rattle.meaning.specs.Refusals.{_when_};
@@ -14,6 +15,12 @@ ghost use Rattle.plan.specs.Tested.{Tested};
 ghost use Rattle.plan.specs.Capped.{capped};
 use crate::Answer;
 use crate::Plan;
+
+// No code calls this: it is proved, so that each constant is the number of the definitions.
+fn limits_agree()
+    ensures { λ _. do ⌜ (least ≡ (← ⟦Plan::LEAST⟧ .entry)) × (maxPasses ≡ (← ⟦Plan::MAX_PASSES⟧ .entry)) × (maxRadius ≡ (← ⟦Plan::MAX_RADIUS⟧ .entry)) × (maxInner ≡ (← ⟦Plan::MAX_INNER⟧ .entry)) ⌝ }
+    ensures { λ _. do ⌜ (maxBound ≡ (← ⟦Plan::MAX_BOUND⟧ .entry)) × (maxResult ≡ (← ⟦Plan::MAX_RESULT⟧ .entry)) × (maxLength ≡ (← ⟦Plan::MAX_LENGTH⟧ .entry)) × (maxSide ≡ (← ⟦Plan::MAX_SIDE⟧ .entry)) ⌝ }
+{}
 
 // Is x not from low to high?
 pub fn outside(low: u64, high: u64, x: u64) -> bool
@@ -75,7 +82,7 @@ fn tap_sum(plan: Plan) -> u64
 }
 
 // How far a sample is felt after one pass.
-pub fn tap_reach(plan: Plan) -> u64
+pub(crate) fn tap_reach(plan: Plan) -> u64
     requires { ⌜ Tested plan ⌝ }
     ensures { λ r. ⌜ r ≡ tapReach (stageOf plan) ⌝ }
 {

@@ -1,6 +1,5 @@
 // A plan, its limits, and what calls answer.
 ghost use mathlib.Core.Path.{_≡_};
-ghost use Rattle.meaning.specs.Limits.{least, maxPasses, maxRadius, maxInner, maxBound, maxResult, maxLength, maxSide};
 ghost use Rattle.meaning.specs.Refusals.{planDivisor, planReach};
 ghost use Rattle.plan.specs.Structs.{stagesOf};
 
@@ -82,9 +81,3 @@ impl Plan {
         self.passes * inner::tap_reach(self)
     }
 }
-
-// No code calls this: it is proved, so that each constant is the number of the definitions.
-fn limits_agree()
-    ensures { λ _. do ⌜ (least ≡ (← ⟦Plan::LEAST⟧ .entry)) × (maxPasses ≡ (← ⟦Plan::MAX_PASSES⟧ .entry)) × (maxRadius ≡ (← ⟦Plan::MAX_RADIUS⟧ .entry)) × (maxInner ≡ (← ⟦Plan::MAX_INNER⟧ .entry)) ⌝ }
-    ensures { λ _. do ⌜ (maxBound ≡ (← ⟦Plan::MAX_BOUND⟧ .entry)) × (maxResult ≡ (← ⟦Plan::MAX_RESULT⟧ .entry)) × (maxLength ≡ (← ⟦Plan::MAX_LENGTH⟧ .entry)) × (maxSide ≡ (← ⟦Plan::MAX_SIDE⟧ .entry)) ⌝ }
-{}

@@ -83,7 +83,7 @@ fn slide(w: i64, hi: i64, first: i64) -> i64
     w + hi - first
 }
 
-// One pass of src into dst, every cell of it.
+// One pass of src into dst, every cell of it. What leaves the window is the next cell on its low side.
 pub fn pass(plan: Plan, src: &[i64], dst: &mut [i64])
     requires { ⌜ Passable plan (now src) (length (now dst)) ⌝ }
     ensures { λ _. ⌜ now (dst .exit) ≡ S.pass fold (stageOf plan) (now (src .entry)) ⌝ }

@@ -1,46 +1,13 @@
 // Smoothing a series.
-ghost use mathlib.Core.Path.{_≡_};
-ghost use Prim.Native.Nat.{_≤_};
-ghost use lib.ListN.{length};
 ghost use Rattle.meaning.specs.Extension.{fold};
-ghost use Rattle.meaning.specs.Refusals as R;
-ghost use Rattle.meaning.specs.Calls as C;
+ghost use Rattle.meaning.specs.Calls.{smoothSeries};
 ghost use Rattle.plan.specs.Structs.{stagesOf, answerOf};
-ghost use Rattle.series.specs.Ready.{Ready, after};
 ghost use Rattle.series.specs.Contract.{Gives};
 use plan::Answer;
 use plan::Plan;
 
 pub mod inner;
-
-// What smoothing a series answers.
-fn refusal(plan: Plan, bound: u64, samples: &[i32], results: usize, work: usize) -> Answer
-    ensures { λ r. ⌜ answerOf r ≡ R.firstOf (C.smoothRows (R.seriesOf (stagesOf plan) (length (now (samples .entry)))) bound (now (samples .entry)) results work) ⌝ }
-{
-    let n = samples.len();
-    let wrong_length = plan::inner::lengths_differ(results, n, work, n);
-    let number = plan::inner::series_refusal(plan, bound, n, wrong_length);
-    if number != 0 {
-        return Answer {
-            number,
-            position: 0,
-        };
-    }
-    plan::inner::sample_refusal(bound, samples, 0, n)
-}
-
-// k passes of the samples into dst. The pass before stands in the other slice, so none reads a cell that it has written.
-fn smooth_into(plan: Plan, k: u64, samples: &[i32], dst: &mut [i64], other: &mut [i64])
-    requires { ⌜ (k ≤ plan .passes) × Ready plan (now samples) (length (now dst)) (length (now other)) ⌝ }
-    ensures { λ _. ⌜ now (dst .exit) ≡ after k plan (now (samples .entry)) ⌝ }
-{
-    if k == 0 {
-        inner::load(samples, dst);
-        return;
-    }
-    smooth_into(plan, k - 1, samples, other, dst);
-    inner::pass(plan, other, dst);
-}
+mod smoothing;
 
 // Smooths the samples into the results, and leaves zeros in work. A refused call changes no cell.
 pub fn smooth_series(
@@ -50,13 +17,13 @@ pub fn smooth_series(
     results: &mut [i64],
     work: &mut [i64],
 ) -> Answer
-    ensures { λ r. ⌜ Gives (C.smoothSeries fold (stagesOf plan) bound (now (samples .entry)) (now (results .entry)) (now (work .entry))) (answerOf r) (now (results .exit)) (now (work .exit)) ⌝ }
+    ensures { λ r. ⌜ Gives (smoothSeries fold (stagesOf plan) bound (now (samples .entry)) (now (results .entry)) (now (work .entry))) (answerOf r) (now (results .exit)) (now (work .exit)) ⌝ }
 {
-    let answer = refusal(plan, bound, samples, results.len(), work.len());
+    let answer = smoothing::refusal(plan, bound, samples, results.len(), work.len());
     if answer.number != 0 {
         return answer;
     }
-    smooth_into(plan, plan.passes, samples, results, work);
+    smoothing::smooth_into(plan, plan.passes, samples, results, work);
     inner::clear(work);
     answer
 }

@@ -28,25 +28,25 @@ number-of : {a b : Answer} → a ≡ b → a .number ≡ b .number
 number-of e = ap (λ (x : Answer). x .number) e
 
 -- ---- rows 1 to 4
-abbrev wide : Stage → Bool
-wide s = ltb maxRadius (s .radius)
+abbrev badRadius : Stage → Bool
+badRadius s = ltb maxRadius (s .radius)
 
-abbrev light : Stage → Bool
-light s = outside least maxInner (s .inner)
+abbrev badInner : Stage → Bool
+badInner s = outside least maxInner (s .inner)
 
-abbrev steep : Stage → Bool
-steep s = leb (s .inner) (s .edge)
+abbrev badEdge : Stage → Bool
+badEdge s = leb (s .inner) (s .edge)
 
-from-tests : (ss : List Stage) → some wide ss ≡ false → some light ss ≡ false → some steep ss ≡ false → AllowedStages ss
+from-tests : (ss : List Stage) → some badRadius ss ≡ false → some badInner ss ≡ false → some badEdge ss ≡ false → AllowedStages ss
 unfolding some
 from-tests [] h k l = tt
 from-tests (s ∷ ss) h k l =
-    let r = or-no (wide s) (some wide ss) h in
-    let b = or-no (light s) (some light ss) k in
-    let a = or-no (steep s) (some steep ss) l in
+    let r = or-no (badRadius s) (some badRadius ss) h in
+    let b = or-no (badInner s) (some badInner ss) k in
+    let a = or-no (badEdge s) (some badEdge ss) l in
     (record { radius = ltb-false _ _ (r .0); inner = outside-no _ _ _ (b .0); edge = leb-false _ _ (a .0) }, from-tests ss (r .1) (b .1) (a .1))
 
-to-tests : (ss : List Stage) → AllowedStages ss → (some wide ss ≡ false) × (some light ss ≡ false) × (some steep ss ≡ false)
+to-tests : (ss : List Stage) → AllowedStages ss → (some badRadius ss ≡ false) × (some badInner ss ≡ false) × (some badEdge ss ≡ false)
 unfolding some
 to-tests [] ok = (refl, refl, refl)
 to-tests (s ∷ ss) ok =
@@ -58,7 +58,7 @@ pub plan-allowed : (ss : List Stage) → Off (planRows (ss ∷ [])) → AllowedP
 unfolding planRows
 plan-allowed ss h = record {
   passes = outside-no _ _ _ (sym (some-one (λ (ss : List Stage). outside least maxPasses (length ss)) ss) ∙ h .0);
-  stages = from-tests ss (sym (some-one (some wide) ss) ∙ h .1 .0) (sym (some-one (some light) ss) ∙ h .1 .1 .0) (sym (some-one (some steep) ss) ∙ h .1 .1 .1 .0);
+  stages = from-tests ss (sym (some-one (some badRadius) ss) ∙ h .1 .0) (sym (some-one (some badInner) ss) ∙ h .1 .1 .0) (sym (some-one (some badEdge) ss) ∙ h .1 .1 .1 .0);
 }
 
 pub allowed-plan : (ss : List Stage) → AllowedPlan ss → Off (planRows (ss ∷ []))
@@ -66,7 +66,7 @@ unfolding planRows
 allowed-plan ss ok =
     let (h, k, l) = to-tests ss (ok .stages) in (
       some-one (λ (ss : List Stage). outside least maxPasses (length ss)) ss ∙ no-outside (ok .passes .0) (ok .passes .1),
-      (some-one (some wide) ss ∙ h, (some-one (some light) ss ∙ k, (some-one (some steep) ss ∙ l, tt))),
+      (some-one (some badRadius) ss ∙ h, (some-one (some badInner) ss ∙ k, (some-one (some badEdge) ss ∙ l, tt))),
     )
 
 -- ---- K equal stages
@@ -89,9 +89,9 @@ plan-rows r b a (suc K) =
     rw (
       some-one (λ (ss : List Stage). outside least maxPasses (length ss)) (replicate (suc K) s),
       length-replicate (suc K) s,
-      some-stage wide K s,
-      some-stage light K s,
-      some-stage steep K s,
+      some-stage badRadius K s,
+      some-stage badInner K s,
+      some-stage badEdge K s,
     )
 
 -- ---- rows 1 to 8 of a series

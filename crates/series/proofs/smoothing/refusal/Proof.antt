@@ -2,8 +2,8 @@
 use borrow.Author.Needs.{needs}
 use Rattle.plan.specs.Structs.{stagesOf}
 use Rattle.series.specs.Steps.{test-refused, test-rest}
-use Rattle.series.proofs.refusal.Statement.{statement}
-use Rattle.series.proofs.refusal.Tie as tie
+use Rattle.series.proofs.smoothing.refusal.Statement.{statement}
+use Rattle.series.proofs.smoothing.refusal.Tie as tie
 
 lengths-differ-requires : tie.Need-lengths-differ-requires
 lengths-differ-requires c κs = search needs
