@@ -200,9 +200,10 @@ const OPENED = {
     'nearest ratio takes doubleRows doublesIn outputRows converted lowestIn highestIn summary',
   'Rattle.meaning.specs.Calls': 'smoothRows smoothed gained editRows countWhere changed editSeries pointRows point',
   'Rattle.meaning.specs.Planner': 'largest radiusFor edgeFor planFor',
+  'Rattle.meaning.specs.Encoding': 'bytes number text digits decimal',
   'Rattle.meaning.specs.Record':
-    'bytes number field sampleBytes sampleAt recordOf begins reading readRecord writeRecord',
-  'Rattle.meaning.specs.Program': 'text digits decimal firstLine resultLines report program',
+    'field sampleBytes sampleAt stretch samplesOf recordOf begins reading readRecord writeRecord',
+  'Rattle.meaning.specs.Program': 'firstLine resultLines report program',
 };
 
 const HEAD = [

@@ -3,7 +3,7 @@ ghost use mathlib.Core.Path.{_≡_};
 ghost use Prim.Native.Nat.{_%_, _^_, _≤_};
 ghost use mir.Syntax.{w32, w64};
 ghost use mir.Val.{toZ};
-ghost use Rattle.meaning.specs.Record.{number};
+ghost use Rattle.meaning.specs.Encoding.{number};
 ghost use Rattle.calls.specs.Front.{Counts};
 use crate::output;
 use plan::Plan;

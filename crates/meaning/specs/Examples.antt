@@ -18,8 +18,9 @@ use Rattle.meaning.specs.Refusals.{Answer, firstOf, firstWhere, rowAt, s
 use Rattle.meaning.specs.Values.{nearest, outputRows, converted, wholeSeries}
 use Rattle.meaning.specs.Calls.{smoothRows, smoothed, smoothSeries, smoothPicture, gained, editRows, countWhere, changed, editSeries}
 use Rattle.meaning.specs.Planner.{largest, radiusFor, edgeFor, planFor}
-use Rattle.meaning.specs.Record.{bytes, number, sampleAt, begins, reading, readRecord}
-use Rattle.meaning.specs.Program.{text, digits, decimal, firstLine, resultLines, report, program}
+use Rattle.meaning.specs.Encoding.{bytes, number, text, digits, decimal}
+use Rattle.meaning.specs.Record.{sampleAt, stretch, samplesOf, begins, reading, readRecord}
+use Rattle.meaning.specs.Program.{firstLine, resultLines, report, program}
 
 data Example : Type 0 where
   -- plan, samples; results
@@ -110,7 +111,7 @@ data Every : List Example → Type 0 where
 examples-hold : Every examples
 unfolding examples sumWithin emod reflect fold ext tap passAt kernel width reach tapSum divisor listOf convolved result results weight near pixel grid picture
     firstOf firstWhere rowAt some planRows sizeRows ifDone ownRows planDivisor planReach nearest outputRows converted smoothRows smoothed gained editRows countWhere changed editSeries
-    largest radiusFor edgeFor planFor bytes number sampleAt begins reading readRecord text digits decimal firstLine resultLines report program
+    largest radiusFor edgeFor planFor bytes number text digits decimal sampleAt stretch samplesOf begins reading readRecord firstLine resultLines report program
 examples-hold =
     refl and refl and refl and refl and refl and refl and refl
     and refl and refl and refl and refl and refl

@@ -9,6 +9,7 @@
 --   Calls       smoothing a series and a picture, an edit, a point: what each answers and leaves
 --   Bounds      the table of bounds as inequalities, beside the rows
 --   Planner     from standard deviation to radius and edge weight
+--   Encoding    numbers as bytes and as text
 --   Record      the job record: reader and writer
 --   Program     what `smooth` prints
 --   Examples    the page's examples, one table under one theorem
@@ -27,6 +28,7 @@ pub mod Values
 pub mod Calls
 pub mod Bounds
 pub mod Planner
+pub mod Encoding
 pub mod Record
 pub mod Program
 pub mod Examples

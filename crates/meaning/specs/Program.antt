@@ -1,38 +1,20 @@
 -- What the program `smooth` prints, as bytes, for the bytes of standard input.
---   text "ab"       the bytes of a text
---   digits n x      x in decimal, for x below 10^n and n above 0
---   decimal z       z in decimal, with a sign where it is negative
 --   firstLine, resultLines i zs   the first line; the lines of results zs from index i on
 --   report D o      the text for the outcome o under divisor D
 --   program s       the text for the input s
-use Prim.Native.Nat.{ℕ, zero, suc, _+_, _/_, _%_}
-use Prim.Native.Char.{code}
-use Prim.Native.String.{String}
+use Prim.Native.Nat.{ℕ, suc}
 use mathlib.Core.Bool.{cond, _||_}
 use mathlib.Core.List.{List, [], _∷_, _++_}
 use lib.Dec.{ltb}
-use lib.ListN.{length, drop, replicate}
-use lib.IntN.{ℤ, pos, negsuc}
+use lib.ListN.{length}
+use lib.IntN.{ℤ, pos}
 use Rattle.meaning.specs.Limits.{maxJob}
+use Rattle.meaning.specs.Encoding.{text, decimal}
 use Rattle.meaning.specs.Extension.{fold}
 use Rattle.meaning.specs.Kernel.{plan, divisor}
-use Rattle.meaning.specs.Smoothing.{listOf}
-use Rattle.meaning.specs.Refusals.{ifDone}
+use Rattle.meaning.specs.Refusals.{ifDone, zeros}
 use Rattle.meaning.specs.Calls.{Smoothed, smoothSeries}
-use Rattle.meaning.specs.Record.{readRecord, sampleAt}
-
-unfoldable pub text : String → List ℕ
-text String.[] = []
-text (String._∷_ c s) = code c ∷ text s
-
-unfoldable pub digits : ℕ → ℕ → List ℕ
-digits zero x = []
-digits (suc n) x = cond (ltb x 10) [] (digits n (x / 10)) ++ ((code "0" + x % 10) ∷ [])
-
--- no number printed has more than 20 digits
-unfoldable pub decimal : ℤ → List ℕ
-decimal (pos n) = digits 20 n
-decimal (negsuc n) = text "-" ++ digits 20 (suc n)
+use Rattle.meaning.specs.Record.{readRecord, samplesOf}
 
 unfoldable pub firstLine : ℕ → ℕ → ℕ → List ℕ
 firstLine a b c = text "smooth " ++ decimal (pos a) ++ text " " ++ decimal (pos b) ++ text " " ++ decimal (pos c) ++ text "\n"
@@ -50,8 +32,7 @@ report D o = ifDone (o .answer) (firstLine 0 D (length (o .results)) ++ resultLi
 unfoldable pub program : List ℕ → List ℕ
 program s =
     let j = readRecord s in
-    let N = j .size / 4 in
+    let f = samplesOf j s in
     let ss = plan (j .radius) (j .inner) (j .edge) (j .passes) in
-    let room = replicate N (pos 0) in
-    let o = smoothSeries fold ss (j .bound) (listOf N (sampleAt (drop (j .start) s))) room room in
+    let o = smoothSeries fold ss (j .bound) f (zeros f) (zeros f) in
     cond (ltb maxJob (length s) || ltb 0 (j .answer .number)) (firstLine 14 0 0) (report (divisor ss) o)

@@ -1,34 +1,30 @@
 -- The job record, a list of bytes, all numbers high byte first.
---   bytes n x         the n low bytes of x
---   number bs         the number that bytes stand for; of none, 0
 --   field t v         a field of tag t and value v
---   sampleBytes f     the bytes of samples;  sampleAt s i  sample i of such bytes
+--   sampleBytes f     the bytes of samples
+--   sampleAt s i      sample i of such bytes; 0 where there are not its four
 --   recordOf          the record of radius, inner and edge weight, passes, bound and samples
+--   Recordable        these are of their fields' widths, and a record holds as many samples
 --   Job               what the reader answers: the numbers, and the stretch that holds the samples, its start and size in bytes
+--   stretch start size s   that stretch of s, as much of it as s has
+--   samplesOf j s     the samples of s, of which the reader answered j
 --   notWellFormed     the answer 14
 --   begins t n s      s begins with a field of tag t and n bytes
 --   reading t n s k   k, given the number in that field and what stands behind it; else 14
 --   readRecord        the reader's outcome
 --   writeRecord       the writer's outcome, a Written: the answer, and the lent slice afterwards
-use Prim.Native.Nat.{ℕ, zero, suc, _+_, _-_, _*_, _/_, _%_, _^_}
+use Prim.Native.Nat.{ℕ, _+_, _-_, _*_, _/_, _%_, _^_, _≤_, _<_}
 use mathlib.Core.Bool.{Bool, cond, not, _&&_}
 use mathlib.Core.List.{List, [], _∷_, _++_}
-use lib.Dec.{leb, eqb}
+use lib.Dec.{leb, ltb, eqb}
 use lib.ListN.{length, take, drop}
-use lib.IntN.{ℤ}
+use lib.IntN.{ℤ, pos}
 use mir.Syntax.{w32}
-use mir.Val.{ofZ, toZ}
+use mir.Val.{SFits, ofZ, toZ}
 use Rattle.meaning.specs.Limits.{least, maxSamples}
+use Rattle.meaning.specs.Encoding.{bytes, number}
+use Rattle.meaning.specs.Extension.{at}
+use Rattle.meaning.specs.Smoothing.{listOf}
 use Rattle.meaning.specs.Refusals.{Answer, _when_, firstOf, outside, differs, ifDone}
-
--- "all high byte first"
-unfoldable pub bytes : ℕ → ℕ → List ℕ
-bytes zero x = []
-bytes (suc n) x = (x / 256 ^ n % 256) ∷ bytes n x
-
-unfoldable pub number : List ℕ → ℕ
-number [] = 0
-number (b ∷ bs) = b * 256 ^ length bs + number bs
 
 -- "one-byte tag, two-byte length, value"
 unfoldable pub field : ℕ → List ℕ → List ℕ
@@ -40,11 +36,22 @@ sampleBytes [] = []
 sampleBytes (z ∷ f) = bytes 4 (ofZ w32 z) ++ sampleBytes f
 
 unfoldable pub sampleAt : List ℕ → ℕ → ℤ
-sampleAt s i = toZ w32 (number (take 4 (drop (4 * i) s)))
+sampleAt s i = cond (ltb i (length s / 4)) (toZ w32 (number (take 4 (drop (4 * i) s)))) (pos 0)
 
 -- "Fields in this order, each once"
 unfoldable pub recordOf : ℕ → ℕ → ℕ → ℕ → ℕ → List ℤ → List ℕ
 recordOf r b a K M f = field 1 (bytes 2 r) ++ field 2 (bytes 1 b) ++ field 3 (bytes 1 a) ++ field 4 (bytes 1 K) ++ field 5 (bytes 4 M) ++ field 6 (sampleBytes f)
+
+-- "it takes unsigned numbers of the fields' widths"
+pub record Recordable (r b a K M : ℕ) (f : List ℤ) : Type 0 where
+  pub radius : r < 256 ^ 2
+  pub inner : b < 256
+  pub edge : a < 256
+  pub passes : K < 256
+  pub bound : M < 256 ^ 4
+  pub samples : (i : ℕ) → SFits w32 (at f i)
+  pub enough : least ≤ length f
+  pub few : length f ≤ maxSamples
 
 pub record Job : Type 0 where
   pub answer : Answer
@@ -59,6 +66,13 @@ pub record Job : Type 0 where
 -- "at 14 the numbers are 0 and the stretch is empty"
 abbrev pub notWellFormed : Job
 notWellFormed = record { answer = record { number = 14; position = 0 }; radius = 0; inner = 0; edge = 0; passes = 0; bound = 0; start = 0; size = 0 }
+
+-- "the stretch of the record that holds the samples"
+unfoldable pub stretch : ℕ → ℕ → List ℕ → List ℕ
+stretch start size s = take size (drop start s)
+
+unfoldable pub samplesOf : Job → List ℕ → List ℤ
+samplesOf j s = listOf (j .size / 4) (sampleAt (stretch (j .start) (j .size) s))
 
 unfoldable pub begins : ℕ → ℕ → List ℕ → Bool
 begins tag n s = eqb (number (take 1 s)) tag && eqb (number (take 2 (drop 1 s))) n && leb (3 + n) (length s)

@@ -18,6 +18,7 @@
 --   Refusals     which row answers, and what an answer of 0 says
 --   Places       the first place where a test is true
 --   Tests        tests that fail, and why
+--   Encoding     numbers as bytes and as text
 --   Accepted     a call is done exactly where the bounds hold
 -- A law over an index map φ takes `F : Folding φ`, and where it speaks of reach `C : Nearness φ`: for document 01, half-sample and half-sample-near.
 pub mod Folding
@@ -39,4 +40,5 @@ pub mod Picture
 pub mod Refusals
 pub mod Places
 pub mod Tests
+pub mod Encoding
 pub mod Accepted

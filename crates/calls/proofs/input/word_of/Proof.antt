@@ -10,7 +10,7 @@ use lib.ListN.{length, take, getD, length-append}
 use lib.Seq.{take-suc, take-all}
 use mir.Syntax.{w8}
 use mir.Val.{Fits}
-use Rattle.meaning.specs.Record.{number}
+use Rattle.meaning.specs.Encoding.{number}
 use Rattle.calls.proofs.input.word_of.Statement.{statement}
 use Rattle.calls.proofs.input.word_of.Tie as tie
 
