@@ -1,19 +1,19 @@
 -- Numbers as bytes and as text.
 --   Bytes s   every element of s is below 256; its field `byte i` holds past the end too, where s reads as 0
 -- Laws: bytes-take, bytes-drop (of a part);
--- length-bytes, bytes-bytes, bytes-last (the last byte apart); number-last, number-more, number-below;
+-- length-bytes, bytes-bytes, bytes-none, bytes-last (the last byte apart); number-last, number-more, number-below;
 -- number-bytes, bytes-number (they undo each other);
--- digits-next (the last digit apart, for numbers of up to 20), length-digits, length-decimal.
+-- decimal-digit, decimal-next (the last digit apart), decimal-negative; length-decimal.
 use mathlib.Core.Path.{_≡_, refl, sym, _∙_, ap, ap₂}
 use mathlib.Core.Bool.{Bool, true, false, cond}
 use mathlib.Core.List.{List, [], _∷_, _++_}
 use Prim.Native.Char.{code}
-use Prim.Native.Nat.{ℕ, zero, suc, _+_, _*_, _/_, _%_, _^_, _≤_, _<_}
+use Prim.Native.Nat.{ℕ, zero, suc, _+_, _-_, _*_, _/_, _%_, _^_, _≤_, _<_}
 use native.Mathlib.Nat.{pow-suc, mul-assoc, mod-lt, mod-mod, div-add-mod', div-div-eq-div-mul, div-lt-iff-lt-mul, mul-comm, pow-succ', one-le-pow, mod-one, div-one, div-eq-of-lt, mul-add-mod-self-right, mul-add-div-right, mod-eq-of-lt}
 use native.Mathlib.Decide.{decLt}
 use native.Mathlib.Numerals.{add-one}
 use native.Mathlib.Omega.{arith}
-use borrow.Author.Tests.{ltb-true, ltb-false}
+use borrow.Author.Tests.{ltb-false, lt-ltb, le-ltb}
 use lib.Dec.{ltb}
 use lib.Arith.{digits-div, digits-lt, mod-mul}
 use lib.ListN.{length, take, drop, getD, length-append, length-take, List·getD-eq-default}
@@ -56,10 +56,18 @@ unfolding bytes
 bytes-bytes zero x = record { byte = λ i. omega arith }
 bytes-bytes (suc n) x = bytes-cons (mod-lt (x / 256 ^ n) (omega arith)) (bytes-bytes n x)
 
-pub bytes-last : (n x : ℕ) → bytes (suc n) x ≡ bytes n (x / 256) ++ (x % 256) ∷ []
+bytes-suc : (n x : ℕ) → bytes (suc n) x ≡ bytes n (x / 256) ++ (x % 256) ∷ []
 unfolding bytes
-bytes-last zero x = rw (div-one x) refl
-bytes-last (suc n) x = rw (bytes-last n x, pow-succ' 256 n) (rw (← div-div-eq-div-mul x 256 (256 ^ n)) refl)
+bytes-suc zero x = rw (div-one x) refl
+bytes-suc (suc n) x = rw (bytes-suc n x, pow-succ' 256 n) (rw (← div-div-eq-div-mul x 256 (256 ^ n)) refl)
+
+pub bytes-none : (x : ℕ) → bytes 0 x ≡ []
+unfolding bytes
+bytes-none x = refl
+
+pub bytes-last : (n x : ℕ) → 0 < n → bytes n x ≡ bytes (n - 1) (x / 256) ++ (x % 256) ∷ []
+bytes-last zero x h = absurd (omega arith)
+bytes-last (suc n) x h = let one : suc n - 1 ≡ n = omega arith in rw one (bytes-suc n x)
 
 pub number-last : (bs : List ℕ) (b : ℕ) → number (bs ++ b ∷ []) ≡ number bs * 256 + b
 unfolding number
@@ -110,11 +118,19 @@ unfolding digits
 digits-more zero x h = last-digit (ltb x 10) _ _ _ (λ e. absurd (omega (arith, ltb-false x 10 e)))
 digits-more (suc n) x h = last-digit (ltb x 10) _ _ _ (λ e. digits-more n (x / 10) (div-lt-iff-lt-mul (omega arith) .1 (rw (← pow-suc 10 (suc n)) h)))
 
-pub digits-next : (x : ℕ) → x < 10 ^ 20 → digits 20 x ≡ cond (ltb x 10) [] (digits 20 (x / 10)) ++ (code "0" + x % 10) ∷ []
-unfolding digits
-digits-next x h = last-digit (ltb x 10) _ _ _ (λ e. sym (digits-more 18 (x / 10) (omega arith)))
+pub decimal-digit : (x : ℕ) → x < 10 → decimal (pos x) ≡ (code "0" + x) ∷ []
+unfolding decimal digits
+decimal-digit x h = rw (lt-ltb x 10 h, mod-eq-of-lt h) refl
 
-pub length-digits : (n x : ℕ) → length (digits n x) ≤ n
+pub decimal-next : (x : ℕ) → 10 ≤ x → x < 10 ^ 20 → decimal (pos x) ≡ decimal (pos (x / 10)) ++ (code "0" + x % 10) ∷ []
+unfolding decimal digits
+decimal-next x h l = rw (le-ltb x 10 h, ← digits-more 18 (x / 10) (omega arith)) refl
+
+pub decimal-negative : (n : ℕ) → decimal (negsuc n) ≡ code "-" ∷ decimal (pos (suc n))
+unfolding decimal text
+decimal-negative n = refl
+
+length-digits : (n x : ℕ) → length (digits n x) ≤ n
 unfolding digits
 length-digits zero x = omega arith
 length-digits (suc n) x = go (ltb x 10) (digits n (x / 10)) (length-digits n (x / 10))
