@@ -2,6 +2,7 @@
 --   Folding      what an index map must be for the laws
 --   HalfSample   the map of document 01 is one
 --   Lists        lists by their elements, and how large those are
+--   Fill         a list written from the front
 --   Kernel       symmetric, never negative, 0 beyond the reach
 --   Convolution  a stage in front, stages one after the other; linear; the kernel's sum
 --   Stages       the numbers of stages one after the other, and of K equal ones
@@ -24,6 +25,7 @@
 pub mod Folding
 pub mod HalfSample
 pub mod Lists
+pub mod Fill
 pub mod Kernel
 pub mod Convolution
 pub mod Stages
