@@ -1,0 +1,150 @@
+-- The job record.
+use mathlib.Core.Path.{_≡_, refl, sym, _∙_, ap, ap₂}
+use mathlib.Core.Logic.{_⊎_, inl, inr}
+use mathlib.Core.Bool.{Bool, true, false, cond, not, _&&_, true≢false}
+use mathlib.Core.List.{List, [], _∷_, _++_, append-nil, append-assoc}
+use Prim.Native.Nat.{ℕ, zero, suc, _+_, _-_, _*_, _/_, _%_, _^_, _≤_, _<_}
+use native.Mathlib.Decide.{decLt}
+use native.Mathlib.Omega.{arith}
+use native.Mathlib.Numerals.{add-one}
+use lib.Dec.{leb, ltb, eqb, leb·suc-suc}
+use lib.ListN.{length, take, drop, length-append, length-take, length-drop, take-append-drop}
+use lib.Seq.{take-at, drop-at, drop-drop, length-take-le, take-suc}
+use lib.IntN.{ℤ, pos}
+use borrow.Author.Tests.{ltb-true, ltb-false, leb-true, eqb-true, lt-ltb, le-ltb, le-leb, eq-eqb}
+use mir.Syntax.{w32}
+use mir.Val.{Fits, SFits, ofZ, toZ}
+use mir.Facts.{toZ-ofZ, ofZ-toZ, fits-ofZ, sfits-toZ, sfits-lit}
+use Rattle.meaning.specs.Limits.{least, maxSamples}
+use Rattle.meaning.specs.Encoding.{bytes, number}
+use Rattle.meaning.specs.Extension.{at}
+use Rattle.meaning.specs.Smoothing.{listOf}
+use Rattle.meaning.specs.Refusals.{Answer, outside}
+use Rattle.meaning.specs.Record.{field, sampleBytes, sampleAt, recordOf, Recordable, Job, notWellFormed, stretch, samplesOf, begins, reading, readRecord}
+use Rattle.theory.specs.Lists.{length-listOf, at-listOf, listOf-ext, listOf-at, at-past}
+use Rattle.theory.specs.Refusals.{done}
+use Rattle.theory.specs.Tests.{outside-no, no-outside}
+use Rattle.theory.specs.Encoding.{Bytes, bytes-take, bytes-drop, bytes-cons, length-bytes, bytes-bytes, number-below, number-bytes, bytes-number}
+
+and-yes : (a b : Bool) → (a && b) ≡ true → (a ≡ true) × (b ≡ true)
+and-yes true b e = (refl, e)
+and-yes false b e = absurd (true≢false (sym e))
+
+yes-and : {a b : Bool} → a ≡ true → b ≡ true → (a && b) ≡ true
+yes-and {a} {b} h k = rw (h, k)
+
+-- ---- a field
+module _ (t : ℕ) (v : List ℕ) where
+  pub length-field : length (field t v) ≡ 3 + length v
+  unfolding field bytes
+  length-field = omega arith
+
+  module _ (rest : List ℕ) where
+    pub value-field : take (length v) (drop 3 (field t v ++ rest)) ≡ v
+    unfolding field bytes
+    value-field = take-at v rest (length v) refl
+
+    pub rest-field : drop (3 + length v) (field t v ++ rest) ≡ rest
+    rest-field = drop-at (field t v) rest (3 + length v) length-field
+
+    pub begins-field : length v < 256 ^ 2 → begins t (length v) (field t v ++ rest) ≡ true
+    unfolding begins field bytes number
+    begins-field l =
+        let tag : t * 1 + 0 ≡ t = omega arith in
+        let room : 3 + length v ≤ length (field t v ++ rest) = omega (arith, length-append v rest) in
+        yes-and (yes-and (eq-eqb _ _ tag) (eq-eqb _ _ (number-bytes 2 (length v) l))) (le-leb _ _ room)
+
+module _ (t n : ℕ) where
+  begun : (s : List ℕ) → begins t n s ≡ true → (number (take 1 s) ≡ t) × ((number (take 2 (drop 1 s)) ≡ n) × (3 + n ≤ length s))
+  unfolding begins
+  begun s e =
+      let (h, k) = and-yes _ _ e in
+      let (a, b) = and-yes _ _ h in
+      (eqb-true _ _ a, (eqb-true _ _ b, leb-true _ _ k))
+
+  pub length-value : (s : List ℕ) → begins t n s ≡ true → length (take n (drop 3 s)) ≡ n
+  length-value s e = length-take-le n (drop 3 s) (omega (arith, begun s e .1 .1, length-drop 3 s))
+
+  pub field-begins : {s : List ℕ} → Bytes s → begins t n s ≡ true → s ≡ field t (take n (drop 3 s)) ++ drop (3 + n) s
+  unfolding field number bytes
+  field-begins {s = []} h e = absurd (omega (arith, begun [] e .1 .1))
+  field-begins {s = a ∷ []} h e = absurd (omega (arith, begun (a ∷ []) e .1 .1))
+  field-begins {s = a ∷ b ∷ []} h e = absurd (omega (arith, begun (a ∷ b ∷ []) e .1 .1))
+  field-begins {s = a ∷ b ∷ c ∷ s} h e =
+      let all = a ∷ b ∷ c ∷ s in
+      let (tag, (size, l)) = begun all e in
+      let first : t ≡ a = omega arith in
+      let front : bytes 2 n ≡ b ∷ c ∷ [] = rw size at (bytes-number (b ∷ c ∷ []) (bytes-take 2 (bytes-drop 1 h))) in
+      let rest : take n s ++ drop (3 + n) all ≡ s = rw (← drop-drop n 3 all) (take-append-drop n s) in
+      rw (length-value all e) (sym (ap₂ (λ (x y : List ℕ). x ++ y) (ap₂ _∷_ first front) rest))
+
+-- ---- a field, read
+module _ (t n : ℕ) (s : List ℕ) (k : ℕ → List ℕ → Job) where
+  pub reading-yes : begins t n s ≡ true → reading t n s k ≡ k (number (take n (drop 3 s))) (drop (3 + n) s)
+  unfolding reading
+  reading-yes e = rw e
+
+  pub reading-no : begins t n s ≡ false → reading t n s k ≡ notWellFormed
+  unfolding reading
+  reading-no e = rw e
+
+-- ---- samples
+pub length-sampleBytes : (f : List ℤ) → length (sampleBytes f) ≡ 4 * length f
+unfolding sampleBytes bytes
+length-sampleBytes [] = refl
+length-sampleBytes (z ∷ f) = omega (arith, length-sampleBytes f)
+
+pub sampleBytes-append : (f g : List ℤ) → sampleBytes (f ++ g) ≡ sampleBytes f ++ sampleBytes g
+unfolding sampleBytes
+sampleBytes-append [] g = refl
+sampleBytes-append (z ∷ f) g = rw (sampleBytes-append f g, append-assoc)
+
+pub sampleBytes-next : (f : List ℤ) (i : ℕ) → i < length f → sampleBytes (take (i + 1) f) ≡ sampleBytes (take i f) ++ bytes 4 (ofZ w32 (at f i))
+unfolding sampleBytes
+sampleBytes-next f i l = rw (add-one, take-suc f i (pos 0), sampleBytes-append, append-nil)
+
+module _ (s : List ℕ) where
+  pub sampleAt-in : (i : ℕ) → i < length s / 4 → sampleAt s i ≡ toZ w32 (number (take 4 (drop (4 * i) s)))
+  unfolding sampleAt
+  sampleAt-in i l = rw (lt-ltb i (length s / 4) l)
+
+  pub sampleAt-past : (i : ℕ) → length s / 4 ≤ i → sampleAt s i ≡ pos 0
+  unfolding sampleAt
+  sampleAt-past i l = rw (le-ltb i (length s / 4) l)
+
+  sampleAt-later : 4 ≤ length s → (i : ℕ) → sampleAt s (suc i) ≡ sampleAt (drop 4 s) i
+  unfolding sampleAt
+  sampleAt-later l i =
+      let size : length s / 4 ≡ suc (length (drop 4 s) / 4) = omega (arith, length-drop 4 s) in
+      let place : 4 * suc i ≡ 4 + 4 * i = omega arith in
+      rw (size, leb·suc-suc (suc i) (length (drop 4 s) / 4), place, drop-drop (4 * i) 4 s)
+
+pub sampleAt-bytes : (f : List ℤ) → ((i : ℕ) → SFits w32 (at f i)) → (i : ℕ) → sampleAt (sampleBytes f) i ≡ at f i
+unfolding sampleBytes bytes
+sampleAt-bytes [] h i = sampleAt-past [] i (omega arith)
+sampleAt-bytes (z ∷ f) h zero = sampleAt-in (sampleBytes (z ∷ f)) 0 (omega arith) ∙ rw (number-bytes 4 (ofZ w32 z) (fits-ofZ (h 0) .fits)) (toZ-ofZ (h 0))
+sampleAt-bytes (z ∷ f) h (suc i) = sampleAt-later (sampleBytes (z ∷ f)) (omega arith) i ∙ sampleAt-bytes f (λ i. h (suc i)) i
+
+pub samples-bytes : (f : List ℤ) → ((i : ℕ) → SFits w32 (at f i)) → listOf (length f) (sampleAt (sampleBytes f)) ≡ f
+samples-bytes f h = listOf-ext (length f) (λ i l. sampleAt-bytes f h i) ∙ listOf-at (length f) f refl
+
+four-fit : {v : List ℕ} → Bytes v → length v ≡ 4 → Fits w32 (number v)
+four-fit {v} h e = record { fits = rw e at (number-below v h) }
+
+pub sampleAt-fits : {s : List ℕ} → Bytes s → (i : ℕ) → SFits w32 (sampleAt s i)
+sampleAt-fits {s} h i = go (decLt i (length s / 4))
+  where
+    go : Dec (i < length s / 4) → SFits w32 (sampleAt s i)
+    go (yes l) = rw (sampleAt-in s i l) (sfits-toZ (four-fit (bytes-take 4 (bytes-drop (4 * i) h)) (length-take-le 4 (drop (4 * i) s) (omega (arith, length-drop (4 * i) s)))))
+    go (no l) = rw (sampleAt-past s i (omega arith)) (sfits-lit tt)
+
+pub bytes-samples : (n : ℕ) {s : List ℕ} → Bytes s → length s ≡ 4 * n → sampleBytes (listOf n (sampleAt s)) ≡ s
+unfolding sampleBytes listOf
+bytes-samples zero {s = []} h e = refl
+bytes-samples zero {s = a ∷ s} h e = let no : ⊥ = omega arith in absurd no
+bytes-samples (suc n) {s} h e =
+    let l : 4 ≤ length s = omega arith in
+    let four : length (take 4 s) ≡ 4 = length-take-le 4 s l in
+    let first : bytes 4 (ofZ w32 (sampleAt s 0)) ≡ take 4 s = rw (sampleAt-in s 0 (omega arith), ofZ-toZ (four-fit (bytes-take 4 h) four)) (rw four at (bytes-number (take 4 s) (bytes-take 4 h))) in
+    let rest : sampleBytes (listOf n (λ i. sampleAt s (suc i))) ≡ drop 4 s = rw (listOf-ext n (λ i m. sampleAt-later s l i)) (bytes-samples n (bytes-drop 4 h) (omega (arith, length-drop 4 s))) in
+    ap₂ (λ (x y : List ℕ). x ++ y) first rest ∙ take-append-drop 4 s
