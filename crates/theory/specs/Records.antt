@@ -7,7 +7,7 @@ use Prim.Native.Nat.{ℕ, zero, suc, _+_, _-_, _*_, _/_, _%_, _^_, _≤_, _<_}
 use native.Mathlib.Decide.{decLt}
 use native.Mathlib.Omega.{arith}
 use native.Mathlib.Numerals.{add-one}
-use lib.Dec.{leb, ltb, eqb, leb·suc-suc}
+use lib.Dec.{leb, ltb, eqb, leb·suc-suc, lit<}
 use lib.ListN.{length, take, drop, length-append, length-take, length-drop, take-append-drop}
 use lib.Seq.{take-at, drop-at, drop-drop, length-take-le, take-suc}
 use lib.IntN.{ℤ, pos}
@@ -148,3 +148,70 @@ bytes-samples (suc n) {s} h e =
     let first : bytes 4 (ofZ w32 (sampleAt s 0)) ≡ take 4 s = rw (sampleAt-in s 0 (omega arith), ofZ-toZ (four-fit (bytes-take 4 h) four)) (rw four at (bytes-number (take 4 s) (bytes-take 4 h))) in
     let rest : sampleBytes (listOf n (λ i. sampleAt s (suc i))) ≡ drop 4 s = rw (listOf-ext n (λ i m. sampleAt-later s l i)) (bytes-samples n (bytes-drop 4 h) (omega (arith, length-drop 4 s))) in
     ap₂ (λ (x y : List ℕ). x ++ y) first rest ∙ take-append-drop 4 s
+
+-- ---- the record that is written
+pub length-recordOf : (r b a K M : ℕ) (f : List ℤ) → length (recordOf r b a K M f) ≡ 27 + 4 * length f
+unfolding recordOf field bytes
+length-recordOf r b a K M f = omega (arith, length-sampleBytes f)
+
+pub bytes-append : {s t : List ℕ} → Bytes s → Bytes t → Bytes (s ++ t)
+bytes-append {s = []} h k = k
+bytes-append {s = b ∷ s} h k = bytes-cons (h .byte 0) (bytes-append {s = s} (bytes-drop 1 h) k)
+
+bytes-field : {t : ℕ} {v : List ℕ} → t < 256 → Bytes v → Bytes (field t v)
+unfolding field
+bytes-field {t} {v} l h = bytes-cons l (bytes-append (bytes-bytes 2 (length v)) h)
+
+pub bytes-sampleBytes : (f : List ℤ) → Bytes (sampleBytes f)
+unfolding sampleBytes
+bytes-sampleBytes [] = bytes-take 0 (bytes-bytes 0 0)
+bytes-sampleBytes (z ∷ f) = bytes-append (bytes-bytes 4 (ofZ w32 z)) (bytes-sampleBytes f)
+
+pub bytes-recordOf : (r b a K M : ℕ) (f : List ℤ) → Bytes (recordOf r b a K M f)
+unfolding recordOf
+bytes-recordOf r b a K M f = search (bytes-append, bytes-field, bytes-bytes, bytes-sampleBytes, lit<, tt) depth 9
+
+abbrev pub jobOf : ℕ → ℕ → ℕ → ℕ → ℕ → List ℤ → Job
+jobOf r b a K M f = record { answer = done; radius = r; inner = b; edge = a; passes = K; bound = M; start = 27; size = 4 * length f }
+
+-- a number of its field's width is read as it was written
+reading-number : (t n : ℕ) {x : ℕ} (rest : List ℕ) (k : ℕ → List ℕ → Job) → x < 256 ^ n → n < 256 ^ 2 → reading t n (field t (bytes n x) ++ rest) k ≡ k x rest
+reading-number t n {x} rest k h l =
+    let v = bytes n x in
+    let size = length-bytes n x in
+    let value : take n (drop 3 (field t v ++ rest)) ≡ v = rw size at (value-field t v rest) in
+    let behind : drop (3 + n) (field t v ++ rest) ≡ rest = rw size at (rest-field t v rest) in
+    reading-yes t n (field t v ++ rest) k (rw size at (begins-field t v rest (rw size l))) ∙ rw (value, behind, number-bytes n x h)
+
+-- what the reader asks of what is left for the samples
+abbrev holdsSamples : List ℕ → Bool
+holdsSamples s =
+    let n = length s - 3 in
+    begins 6 n s && eqb (n % 4) 0 && not (outside least maxSamples (n / 4))
+
+holds-samples : (f : List ℤ) → least ≤ length f → length f ≤ maxSamples → holdsSamples (field 6 (sampleBytes f)) ≡ true
+holds-samples f l m =
+    let v = sampleBytes f in
+    let n : length (field 6 v) - 3 ≡ 4 * length f = omega (arith, length-field 6 v, length-sampleBytes f) in
+    let few : length v < 256 ^ 2 = omega (arith, length-sampleBytes f) in
+    let front : begins 6 (4 * length f) (field 6 v) ≡ true = rw (append-nil, length-sampleBytes f) at (begins-field 6 v [] few) in
+    let fours : 4 * length f % 4 ≡ 0 = omega arith in
+    let count : 4 * length f / 4 ≡ length f = omega arith in
+    rw (n, front, fours, count, no-outside l m)
+
+pub read-recordOf : {r b a K M : ℕ} {f : List ℤ} → Recordable r b a K M f → readRecord (recordOf r b a K M f) ≡ jobOf r b a K M f
+unfolding readRecord recordOf field bytes
+read-recordOf {r} {b} {a} {K} {M} {f} ok =
+    let s₅ = field 6 (sampleBytes f) in
+    let s₄ = field 5 (bytes 4 M) ++ s₅ in
+    let s₃ = field 4 (bytes 1 K) ++ s₄ in
+    let s₂ = field 3 (bytes 1 a) ++ s₃ in
+    let s₁ = field 2 (bytes 1 b) ++ s₂ in
+    let size : length s₅ - 3 ≡ 4 * length f = omega (arith, length-sampleBytes f) in
+    let start : length (recordOf r b a K M f) - (length s₅ - 3) ≡ 27 = omega arith in
+    reading-number 1 2 s₁ _ (ok .radius) (omega arith)
+    ∙ reading-number 2 1 s₂ _ (ok .inner) (omega arith)
+    ∙ reading-number 3 1 s₃ _ (ok .edge) (omega arith)
+    ∙ reading-number 4 1 s₄ _ (ok .passes) (omega arith)
+    ∙ reading-number 5 4 s₅ _ (ok .bound) (omega arith)
+    ∙ rw (holds-samples f (ok .enough) (ok .few), start, size)
