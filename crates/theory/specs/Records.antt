@@ -8,10 +8,10 @@ use native.Mathlib.Decide.{decLt}
 use native.Mathlib.Omega.{arith}
 use native.Mathlib.Numerals.{add-one}
 use lib.Dec.{leb, ltb, eqb, leb·suc-suc, lit<}
-use lib.ListN.{length, take, drop, length-append, length-take, length-drop, take-append-drop}
-use lib.Seq.{take-at, drop-at, drop-drop, length-take-le, take-suc}
+use lib.ListN.{length, take, drop, length-append, length-take, length-drop, take-append-drop, drop-of-length-le}
+use lib.Seq.{take-at, drop-at, drop-drop, length-take-le, take-suc, take-length}
 use lib.IntN.{ℤ, pos}
-use borrow.Author.Tests.{ltb-true, ltb-false, leb-true, eqb-true, lt-ltb, le-ltb, le-leb, eq-eqb}
+use borrow.Author.Tests.{ltb-true, ltb-false, leb-true, eqb-true, lt-ltb, le-ltb, le-leb, eq-eqb, not-true}
 use mir.Syntax.{w32}
 use mir.Val.{Fits, SFits, ofZ, toZ}
 use mir.Facts.{toZ-ofZ, ofZ-toZ, fits-ofZ, sfits-toZ, sfits-lit}
@@ -55,24 +55,24 @@ module _ (t : ℕ) (v : List ℕ) where
         yes-and (yes-and (eq-eqb _ _ tag) (eq-eqb _ _ (number-bytes 2 (length v) l))) (le-leb _ _ room)
 
 module _ (t n : ℕ) where
-  begun : (s : List ℕ) → begins t n s ≡ true → (number (take 1 s) ≡ t) × ((number (take 2 (drop 1 s)) ≡ n) × (3 + n ≤ length s))
+  begun : (s : List ℕ) → begins t n s ≡ true → (number (take 1 s) ≡ t) × (number (take 2 (drop 1 s)) ≡ n) × (3 + n ≤ length s)
   unfolding begins
   begun s e =
       let (h, k) = and-yes _ _ e in
       let (a, b) = and-yes _ _ h in
-      (eqb-true _ _ a, (eqb-true _ _ b, leb-true _ _ k))
+      (eqb-true _ _ a, eqb-true _ _ b, leb-true _ _ k)
 
   pub length-value : (s : List ℕ) → begins t n s ≡ true → length (take n (drop 3 s)) ≡ n
-  length-value s e = length-take-le n (drop 3 s) (omega (arith, begun s e .1 .1, length-drop 3 s))
+  length-value s e = length-take-le n (drop 3 s) (omega (arith, begun s e .2, length-drop 3 s))
 
   pub field-begins : {s : List ℕ} → Bytes s → begins t n s ≡ true → s ≡ field t (take n (drop 3 s)) ++ drop (3 + n) s
   unfolding field number bytes
-  field-begins {s = []} h e = absurd (omega (arith, begun [] e .1 .1))
-  field-begins {s = a ∷ []} h e = absurd (omega (arith, begun (a ∷ []) e .1 .1))
-  field-begins {s = a ∷ b ∷ []} h e = absurd (omega (arith, begun (a ∷ b ∷ []) e .1 .1))
+  field-begins {s = []} h e = absurd (omega (arith, begun [] e .2))
+  field-begins {s = a ∷ []} h e = absurd (omega (arith, begun (a ∷ []) e .2))
+  field-begins {s = a ∷ b ∷ []} h e = absurd (omega (arith, begun (a ∷ b ∷ []) e .2))
   field-begins {s = a ∷ b ∷ c ∷ s} h e =
       let all = a ∷ b ∷ c ∷ s in
-      let (tag, (size, l)) = begun all e in
+      let (tag, size, l) = begun all e in
       let first : t ≡ a = omega arith in
       let front : bytes 2 n ≡ b ∷ c ∷ [] = rw size at (bytes-number (b ∷ c ∷ []) (bytes-take 2 (bytes-drop 1 h))) in
       let rest : take n s ++ drop (3 + n) all ≡ s = rw (← drop-drop n 3 all) (take-append-drop n s) in
@@ -215,3 +215,103 @@ read-recordOf {r} {b} {a} {K} {M} {f} ok =
     ∙ reading-number 4 1 s₄ _ (ok .passes) (omega arith)
     ∙ reading-number 5 4 s₅ _ (ok .bound) (omega arith)
     ∙ rw (holds-samples f (ok .enough) (ok .few), start, size)
+
+stretch-recordOf : (r b a K M : ℕ) (f : List ℤ) → stretch 27 (4 * length f) (recordOf r b a K M f) ≡ sampleBytes f
+unfolding stretch recordOf field bytes
+stretch-recordOf r b a K M f = rw (← length-sampleBytes f) (take-length (sampleBytes f))
+
+pub samples-recordOf : {r b a K M : ℕ} {f : List ℤ} → Recordable r b a K M f → samplesOf (readRecord (recordOf r b a K M f)) (recordOf r b a K M f) ≡ f
+unfolding samplesOf
+samples-recordOf {r} {b} {a} {K} {M} {f} ok =
+    let count : 4 * length f / 4 ≡ length f = omega arith in
+    rw (read-recordOf ok, stretch-recordOf r b a K M f, count) (samples-bytes f (ok .samples))
+
+-- ---- the record that is read
+-- what holds of 14 and where a test passes
+if-passed : (P : Job → Type 0) (b : Bool) {j : Job} → P notWellFormed → (b ≡ true → P j) → P (cond b j notWellFormed)
+if-passed P true refused next = next refl
+if-passed P false refused next = refused
+
+-- the same of a field, by its number and what stands behind it
+reading-bytes : (P : Job → Type 0) (t n : ℕ) {s : List ℕ} → Bytes s → (k : ℕ → List ℕ → Job) → P notWellFormed → ((x : ℕ) (rest : List ℕ) → x < 256 ^ n → Bytes rest → s ≡ field t (bytes n x) ++ rest → P (k x rest)) → P (reading t n s k)
+unfolding reading
+reading-bytes P t n {s} h k refused next = if-passed P (begins t n s) refused λ e.
+    let v = take n (drop 3 s) in
+    let size = length-value t n s e in
+    let known = bytes-take n (bytes-drop 3 h) in
+    next (number v) (drop (3 + n) s) (rw size at (number-below v known)) (bytes-drop (3 + n) h) (rw (rw size at (bytes-number v known)) (field-begins t n h e))
+
+pub samples-fit : (n : ℕ) {s : List ℕ} → Bytes s → (i : ℕ) → SFits w32 (at (listOf n (sampleAt s)) i)
+samples-fit n {s} h i = go (decLt i n)
+  where
+    go : Dec (i < n) → SFits w32 (at (listOf n (sampleAt s)) i)
+    go (yes l) = rw (at-listOf n (sampleAt s) i l) (sampleAt-fits h i)
+    go (no l) = rw (at-past (listOf n (sampleAt s)) i (omega (arith, length-listOf n (sampleAt s)))) (sfits-lit tt)
+
+record Samples (s : List ℕ) : Type 0 where
+  samples : List ℤ
+  fit : (i : ℕ) → SFits w32 (at samples i)
+  enough : least ≤ length samples
+  few : length samples ≤ maxSamples
+  same : s ≡ field 6 (sampleBytes samples)
+
+held : (s : List ℕ) → holdsSamples s ≡ true → (begins 6 (length s - 3) s ≡ true) × ((length s - 3) % 4 ≡ 0) × ((least ≤ (length s - 3) / 4) × ((length s - 3) / 4 ≤ maxSamples))
+held s e =
+    let n = length s - 3 in
+    let (begin, count) = and-yes _ _ e in
+    let (front, fours) = and-yes _ _ begin in
+    (front, eqb-true _ _ fours, outside-no least maxSamples (n / 4) (not-true _ count))
+
+samples-held : {s : List ℕ} → Bytes s → holdsSamples s ≡ true → Samples s
+samples-held {s} h e =
+    let n = length s - 3 in
+    let v = take n (drop 3 s) in
+    let (front, fours, (enough, few)) = held s e in
+    let known = bytes-take n (bytes-drop 3 h) in
+    let whole : length v ≡ 4 * (n / 4) = omega (arith, length-value 6 n s front) in
+    let behind : drop (3 + n) s ≡ [] = drop-of-length-le s {i = 3 + n} (omega arith) in
+    let count = length-listOf (n / 4) (sampleAt v) in
+    record {
+      samples = listOf (n / 4) (sampleAt v);
+      fit = samples-fit (n / 4) known;
+      enough = rw count enough;
+      few = rw count few;
+      same = rw (bytes-samples (n / 4) known whole) (rw (behind, append-nil) at (field-begins 6 n h front));
+    }
+
+record Accepted (s : List ℕ) : Type 0 where
+  radius : ℕ
+  inner : ℕ
+  edge : ℕ
+  passes : ℕ
+  bound : ℕ
+  samples : List ℤ
+  ok : Recordable radius inner edge passes bound samples
+  same : s ≡ recordOf radius inner edge passes bound samples
+
+accepted : {s : List ℕ} → Bytes s → readRecord s .answer .number ≡ 0 → Accepted s
+unfolding readRecord recordOf field bytes
+accepted {s} h =
+    reading-bytes P 1 2 h _ refused λ r s₁ l₁ h₁ e₁.
+    reading-bytes P 2 1 h₁ _ refused λ b s₂ l₂ h₂ e₂.
+    reading-bytes P 3 1 h₂ _ refused λ a s₃ l₃ h₃ e₃.
+    reading-bytes P 4 1 h₃ _ refused λ K s₄ l₄ h₄ e₄.
+    reading-bytes P 5 4 h₄ _ refused λ M s₅ l₅ h₅ e₅.
+    if-passed P (holdsSamples s₅) refused λ e z.
+    let o = samples-held h₅ e in
+    record {
+      radius = r;
+      inner = b;
+      edge = a;
+      passes = K;
+      bound = M;
+      samples = o .samples;
+      ok = record { radius = l₁; inner = l₂; edge = l₃; passes = l₄; bound = l₅; samples = o .fit; enough = o .enough; few = o .few };
+      same = cc (o .same);
+    }
+  where
+    P : Job → Type 0
+    P j = j .answer .number ≡ 0 → Accepted s
+
+    refused : P notWellFormed
+    refused e = let no : ⊥ = omega arith in absurd no
