@@ -1,6 +1,6 @@
 -- The job record.
 use mathlib.Core.Path.{_≡_, refl, sym, _∙_, ap, ap₂}
-use mathlib.Core.Logic.{_⊎_, inl, inr}
+use mathlib.Core.Logic.{_⊎_, inl, inr, ⊎-elim, ⊎-map}
 use mathlib.Core.Bool.{Bool, true, false, cond, not, _&&_, true≢false}
 use mathlib.Core.List.{List, [], _∷_, _++_, append-nil, append-assoc}
 use Prim.Native.Nat.{ℕ, zero, suc, _+_, _-_, _*_, _/_, _%_, _^_, _≤_, _<_}
@@ -9,7 +9,7 @@ use native.Mathlib.Omega.{arith}
 use native.Mathlib.Numerals.{add-one}
 use lib.Dec.{leb, ltb, eqb, leb·suc-suc, lit<}
 use lib.ListN.{length, take, drop, length-append, length-take, length-drop, take-append-drop, drop-of-length-le}
-use lib.Seq.{take-at, drop-at, drop-drop, length-take-le, take-suc, take-length}
+use lib.Seq.{take-at, drop-at, drop-drop, length-take-le, take-suc, take-length, take-all}
 use lib.IntN.{ℤ, pos}
 use borrow.Author.Tests.{ltb-true, ltb-false, leb-true, eqb-true, lt-ltb, le-ltb, le-leb, eq-eqb, not-true}
 use mir.Syntax.{w32}
@@ -232,10 +232,14 @@ if-passed : (P : Job → Type 0) (b : Bool) {j : Job} → P notWellFormed → (b
 if-passed P true refused next = next refl
 if-passed P false refused next = refused
 
--- the same of a field, by its number and what stands behind it
-reading-bytes : (P : Job → Type 0) (t n : ℕ) {s : List ℕ} → Bytes s → (k : ℕ → List ℕ → Job) → P notWellFormed → ((x : ℕ) (rest : List ℕ) → x < 256 ^ n → Bytes rest → s ≡ field t (bytes n x) ++ rest → P (k x rest)) → P (reading t n s k)
+-- the same of a field
+reading-by : (P : Job → Type 0) (t n : ℕ) (s : List ℕ) (k : ℕ → List ℕ → Job) → P notWellFormed → (begins t n s ≡ true → P (k (number (take n (drop 3 s))) (drop (3 + n) s))) → P (reading t n s k)
 unfolding reading
-reading-bytes P t n {s} h k refused next = if-passed P (begins t n s) refused λ e.
+reading-by P t n s k = if-passed P (begins t n s)
+
+-- and of bytes, by the number in it and what stands behind it
+reading-bytes : (P : Job → Type 0) (t n : ℕ) {s : List ℕ} → Bytes s → (k : ℕ → List ℕ → Job) → P notWellFormed → ((x : ℕ) (rest : List ℕ) → x < 256 ^ n → Bytes rest → s ≡ field t (bytes n x) ++ rest → P (k x rest)) → P (reading t n s k)
+reading-bytes P t n {s} h k refused next = reading-by P t n s k refused λ e.
     let v = take n (drop 3 s) in
     let size = length-value t n s e in
     let known = bytes-take n (bytes-drop 3 h) in
@@ -315,3 +319,76 @@ accepted {s} h =
 
     refused : P notWellFormed
     refused e = let no : ⊥ = omega arith in absurd no
+
+abbrev written : Job → List ℤ → List ℕ
+written j f = recordOf (j .radius) (j .inner) (j .edge) (j .passes) (j .bound) f
+
+abbrev Writable : Job → List ℤ → Type 0
+Writable j f = Recordable (j .radius) (j .inner) (j .edge) (j .passes) (j .bound) f
+
+both-ways : {r b a K M : ℕ} {f : List ℤ} (s : List ℕ) → Recordable r b a K M f → s ≡ recordOf r b a K M f → (written (readRecord s) (samplesOf (readRecord s) s) ≡ s) × Writable (readRecord s) (samplesOf (readRecord s) s)
+both-ways s ok e = rw (e, samples-recordOf ok, read-recordOf ok) (refl, ok)
+
+module _ {s : List ℕ} (h : Bytes s) (z : readRecord s .answer .number ≡ 0) where
+  pub recordOf-read : let j = readRecord s in recordOf (j .radius) (j .inner) (j .edge) (j .passes) (j .bound) (samplesOf j s) ≡ s
+  recordOf-read = both-ways s (accepted h z .ok) (accepted h z .same) .0
+
+  pub read-recordable : let j = readRecord s in Recordable (j .radius) (j .inner) (j .edge) (j .passes) (j .bound) (samplesOf j s)
+  read-recordable = both-ways s (accepted h z .ok) (accepted h z .same) .1
+
+-- ---- its stretch
+pub record Stretch (s : List ℕ) (j : Job) : Type 0 where
+  pub start : j .start ≡ 27
+  pub size : j .size ≡ 4 * length (samplesOf j s)
+  pub whole : j .start + j .size ≡ length s
+  pub enough : least ≤ j .size / 4
+  pub few : j .size / 4 ≤ maxSamples
+  pub rest : stretch (j .start) (j .size) s ≡ drop 27 s
+
+stretched : (s s₅ : List ℕ) → length s₅ ≡ length s - 24 → holdsSamples s₅ ≡ true → (j : Job) → j .start ≡ length s - (length s₅ - 3) → j .size ≡ length s₅ - 3 → Stretch s j
+unfolding samplesOf stretch
+stretched s s₅ l e j start size =
+    let n = length s₅ - 3 in
+    let (front, fours, (enough, few)) = held s₅ e in
+    let (tag, same, room) = begun 6 n s₅ front in
+    let first : j .start ≡ 27 = omega arith in
+    record {
+      start = first;
+      size = rw (length-listOf (j .size / 4) (sampleAt (stretch (j .start) (j .size) s))) (omega arith);
+      whole = omega arith;
+      enough = rw size enough;
+      few = rw size few;
+      rest = rw first (take-all (j .size) (drop 27 s) (omega (arith, length-drop 27 s)));
+    }
+
+read-walk : (s : List ℕ) → (readRecord s ≡ notWellFormed) ⊎ ((readRecord s .answer ≡ done) × Stretch s (readRecord s))
+unfolding readRecord
+read-walk s =
+    reading-by P 1 2 s _ (inl refl) λ e₁.
+    reading-by P 2 1 _ _ (inl refl) λ e₂.
+    reading-by P 3 1 _ _ (inl refl) λ e₃.
+    reading-by P 4 1 _ _ (inl refl) λ e₄.
+    reading-by P 5 4 _ _ (inl refl) λ e₅.
+    if-passed P (holdsSamples s₅) (inl refl) λ e. inr (refl, stretched s s₅ left e _ refl refl)
+  where
+    P : Job → Type 0
+    P j = (j ≡ notWellFormed) ⊎ ((j .answer ≡ done) × Stretch s j)
+
+    s₅ : List ℕ
+    s₅ = drop 7 (drop 4 (drop 4 (drop 4 (drop 5 s))))
+
+    left : length s₅ ≡ length s - 24
+    left = simp length-drop (omega arith)
+
+module _ (s : List ℕ) where
+  pub read-either : (readRecord s ≡ notWellFormed) ⊎ (readRecord s .answer ≡ done)
+  read-either = ⊎-map (λ e. e) (λ h. h .0) (read-walk s)
+
+  pub read-number : (readRecord s .answer .number ≡ 0) ⊎ (readRecord s .answer .number ≡ 14)
+  read-number = ⊎-elim (λ e. inr (rw e)) (λ d. inl (rw d)) read-either
+
+  pub read-refused : (readRecord s .answer .number ≡ 0 → ⊥) → readRecord s ≡ notWellFormed
+  read-refused n = ⊎-elim (λ e. e) (λ d. absurd (n (rw d))) read-either
+
+  pub read-stretch : readRecord s .answer .number ≡ 0 → Stretch s (readRecord s)
+  read-stretch z = ⊎-elim (λ (e : readRecord s ≡ notWellFormed). let no : 14 ≡ 0 = rw e at z in absurd (omega arith)) (λ h. h .1) (read-walk s)
