@@ -1,5 +1,15 @@
--- The job record.
-use mathlib.Core.Path.{_≡_, refl, sym, _∙_, ap, ap₂}
+-- The job record: what is written is read, and what is read as done was written.
+--   jobOf r b a K M f   what the reader answers to recordOf r b a K M f
+--   Stretch s j         how the samples lie in s, read as j: from byte 27 to the end, four bytes each, as many as allowed
+-- Laws: length-field; value-field, rest-field, begins-field (a field in front of a list); length-value, field-begins (what begins with a field is one);
+-- reading-yes, reading-no (what its test decides);
+-- length-sampleBytes, sampleBytes-append, sampleBytes-next (one sample more); sampleAt-in, sampleAt-past; sampleAt-fits, samples-fit (samples read fit);
+-- sampleAt-bytes, samples-bytes, bytes-samples (samples and bytes undo each other);
+-- length-recordOf; bytes-append, bytes-sampleBytes, bytes-recordOf (these are bytes);
+-- read-recordOf, samples-recordOf (what is written is read);
+-- read-written (what holds of every record written holds of one read as done), recordOf-read, read-recordable;
+-- read-either, read-number, read-refused (done or not well-formed), read-stretch (of a done one).
+use mathlib.Core.Path.{_≡_, refl, sym, _∙_, ap₂}
 use mathlib.Core.Logic.{_⊎_, inl, inr, ⊎-elim, ⊎-map}
 use mathlib.Core.Bool.{Bool, true, false, cond, not, _&&_, true≢false}
 use mathlib.Core.List.{List, [], _∷_, _++_, append-nil, append-assoc}
@@ -7,11 +17,11 @@ use Prim.Native.Nat.{ℕ, zero, suc, _+_, _-_, _*_, _/_, _%_, _^_, _≤_, _<_}
 use native.Mathlib.Decide.{decLt}
 use native.Mathlib.Omega.{arith}
 use native.Mathlib.Numerals.{add-one}
-use lib.Dec.{leb, ltb, eqb, leb·suc-suc, lit<}
-use lib.ListN.{length, take, drop, length-append, length-take, length-drop, take-append-drop, drop-of-length-le}
+use lib.Dec.{eqb, leb·suc-suc, lit<}
+use lib.ListN.{length, take, drop, length-append, length-drop, take-append-drop, drop-of-length-le}
 use lib.Seq.{take-at, drop-at, drop-drop, length-take-le, take-suc, take-length, take-all}
 use lib.IntN.{ℤ, pos}
-use borrow.Author.Tests.{ltb-true, ltb-false, leb-true, eqb-true, lt-ltb, le-ltb, le-leb, eq-eqb, not-true}
+use borrow.Author.Tests.{leb-true, eqb-true, lt-ltb, le-ltb, le-leb, eq-eqb, not-true}
 use mir.Syntax.{w32}
 use mir.Val.{Fits, SFits, ofZ, toZ}
 use mir.Facts.{toZ-ofZ, ofZ-toZ, fits-ofZ, sfits-toZ, sfits-lit}
@@ -19,7 +29,7 @@ use Rattle.meaning.specs.Limits.{least, maxSamples}
 use Rattle.meaning.specs.Encoding.{bytes, number}
 use Rattle.meaning.specs.Extension.{at}
 use Rattle.meaning.specs.Smoothing.{listOf}
-use Rattle.meaning.specs.Refusals.{Answer, outside}
+use Rattle.meaning.specs.Refusals.{outside}
 use Rattle.meaning.specs.Record.{field, sampleBytes, sampleAt, recordOf, Recordable, Job, notWellFormed, stretch, samplesOf, begins, reading, readRecord}
 use Rattle.theory.specs.Lists.{length-listOf, at-listOf, listOf-ext, listOf-at, at-past}
 use Rattle.theory.specs.Refusals.{done}
@@ -128,6 +138,7 @@ sampleAt-bytes (z ∷ f) h (suc i) = sampleAt-later (sampleBytes (z ∷ f)) (ome
 pub samples-bytes : (f : List ℤ) → ((i : ℕ) → SFits w32 (at f i)) → listOf (length f) (sampleAt (sampleBytes f)) ≡ f
 samples-bytes f h = listOf-ext (length f) (λ i l. sampleAt-bytes f h i) ∙ listOf-at (length f) f refl
 
+-- four bytes are the bits of a sample
 four-fit : {v : List ℕ} → Bytes v → length v ≡ 4 → Fits w32 (number v)
 four-fit {v} h e = record { fits = rw e at (number-below v h) }
 
@@ -135,8 +146,17 @@ pub sampleAt-fits : {s : List ℕ} → Bytes s → (i : ℕ) → SFits w32 (samp
 sampleAt-fits {s} h i = go (decLt i (length s / 4))
   where
     go : Dec (i < length s / 4) → SFits w32 (sampleAt s i)
-    go (yes l) = rw (sampleAt-in s i l) (sfits-toZ (four-fit (bytes-take 4 (bytes-drop (4 * i) h)) (length-take-le 4 (drop (4 * i) s) (omega (arith, length-drop (4 * i) s)))))
+    go (yes l) =
+        let four : length (take 4 (drop (4 * i) s)) ≡ 4 = length-take-le 4 (drop (4 * i) s) (omega (arith, length-drop (4 * i) s)) in
+        rw (sampleAt-in s i l) (sfits-toZ (four-fit (bytes-take 4 (bytes-drop (4 * i) h)) four))
     go (no l) = rw (sampleAt-past s i (omega arith)) (sfits-lit tt)
+
+pub samples-fit : (n : ℕ) {s : List ℕ} → Bytes s → (i : ℕ) → SFits w32 (at (listOf n (sampleAt s)) i)
+samples-fit n {s} h i = go (decLt i n)
+  where
+    go : Dec (i < n) → SFits w32 (at (listOf n (sampleAt s)) i)
+    go (yes l) = rw (at-listOf n (sampleAt s) i l) (sampleAt-fits h i)
+    go (no l) = rw (at-past (listOf n (sampleAt s)) i (omega (arith, length-listOf n (sampleAt s)))) (sfits-lit tt)
 
 pub bytes-samples : (n : ℕ) {s : List ℕ} → Bytes s → length s ≡ 4 * n → sampleBytes (listOf n (sampleAt s)) ≡ s
 unfolding sampleBytes listOf
@@ -227,17 +247,17 @@ samples-recordOf {r} {b} {a} {K} {M} {f} ok =
     rw (read-recordOf ok, stretch-recordOf r b a K M f, count) (samples-bytes f (ok .samples))
 
 -- ---- the record that is read
--- what holds of 14 and where a test passes
+-- what holds of 14, and where a test passes of what comes then, holds of both together
 if-passed : (P : Job → Type 0) (b : Bool) {j : Job} → P notWellFormed → (b ≡ true → P j) → P (cond b j notWellFormed)
 if-passed P true refused next = next refl
 if-passed P false refused next = refused
 
--- the same of a field
+-- the test that a field begins
 reading-by : (P : Job → Type 0) (t n : ℕ) (s : List ℕ) (k : ℕ → List ℕ → Job) → P notWellFormed → (begins t n s ≡ true → P (k (number (take n (drop 3 s))) (drop (3 + n) s))) → P (reading t n s k)
 unfolding reading
 reading-by P t n s k = if-passed P (begins t n s)
 
--- and of bytes, by the number in it and what stands behind it
+-- in bytes, a field is all of its number, so that what is read can be written again
 reading-bytes : (P : Job → Type 0) (t n : ℕ) {s : List ℕ} → Bytes s → (k : ℕ → List ℕ → Job) → P notWellFormed → ((x : ℕ) (rest : List ℕ) → x < 256 ^ n → Bytes rest → s ≡ field t (bytes n x) ++ rest → P (k x rest)) → P (reading t n s k)
 reading-bytes P t n {s} h k refused next = reading-by P t n s k refused λ e.
     let v = take n (drop 3 s) in
@@ -245,20 +265,7 @@ reading-bytes P t n {s} h k refused next = reading-by P t n s k refused λ e.
     let known = bytes-take n (bytes-drop 3 h) in
     next (number v) (drop (3 + n) s) (rw size at (number-below v known)) (bytes-drop (3 + n) h) (rw (rw size at (bytes-number v known)) (field-begins t n h e))
 
-pub samples-fit : (n : ℕ) {s : List ℕ} → Bytes s → (i : ℕ) → SFits w32 (at (listOf n (sampleAt s)) i)
-samples-fit n {s} h i = go (decLt i n)
-  where
-    go : Dec (i < n) → SFits w32 (at (listOf n (sampleAt s)) i)
-    go (yes l) = rw (at-listOf n (sampleAt s) i l) (sampleAt-fits h i)
-    go (no l) = rw (at-past (listOf n (sampleAt s)) i (omega (arith, length-listOf n (sampleAt s)))) (sfits-lit tt)
-
-record Samples (s : List ℕ) : Type 0 where
-  samples : List ℤ
-  fit : (i : ℕ) → SFits w32 (at samples i)
-  enough : least ≤ length samples
-  few : length samples ≤ maxSamples
-  same : s ≡ field 6 (sampleBytes samples)
-
+-- the test of the samples, and what it finds in bytes
 held : (s : List ℕ) → holdsSamples s ≡ true → (begins 6 (length s - 3) s ≡ true) × ((length s - 3) % 4 ≡ 0) × ((least ≤ (length s - 3) / 4) × ((length s - 3) / 4 ≤ maxSamples))
 held s e =
     let n = length s - 3 in
@@ -266,77 +273,46 @@ held s e =
     let (front, fours) = and-yes _ _ begin in
     (front, eqb-true _ _ fours, outside-no least maxSamples (n / 4) (not-true _ count))
 
-samples-held : {s : List ℕ} → Bytes s → holdsSamples s ≡ true → Samples s
-samples-held {s} h e =
+samples-held : {A : Type 0} {s : List ℕ} → Bytes s → holdsSamples s ≡ true → ((f : List ℤ) → ((i : ℕ) → SFits w32 (at f i)) → least ≤ length f → length f ≤ maxSamples → s ≡ field 6 (sampleBytes f) → A) → A
+samples-held {s} h e next =
     let n = length s - 3 in
     let v = take n (drop 3 s) in
     let (front, fours, (enough, few)) = held s e in
     let known = bytes-take n (bytes-drop 3 h) in
     let whole : length v ≡ 4 * (n / 4) = omega (arith, length-value 6 n s front) in
-    let behind : drop (3 + n) s ≡ [] = drop-of-length-le s {i = 3 + n} (omega arith) in
     let count = length-listOf (n / 4) (sampleAt v) in
-    record {
-      samples = listOf (n / 4) (sampleAt v);
-      fit = samples-fit (n / 4) known;
-      enough = rw count enough;
-      few = rw count few;
-      same = rw (bytes-samples (n / 4) known whole) (rw (behind, append-nil) at (field-begins 6 n h front));
-    }
+    let behind : drop (3 + n) s ≡ [] = drop-of-length-le s {i = 3 + n} (omega arith) in
+    let same = rw (behind, append-nil) at (field-begins 6 n h front) in
+    next (listOf (n / 4) (sampleAt v)) (samples-fit (n / 4) known) (rw count enough) (rw count few) (rw (bytes-samples (n / 4) known whole) same)
 
-record Accepted (s : List ℕ) : Type 0 where
-  radius : ℕ
-  inner : ℕ
-  edge : ℕ
-  passes : ℕ
-  bound : ℕ
-  samples : List ℤ
-  ok : Recordable radius inner edge passes bound samples
-  same : s ≡ recordOf radius inner edge passes bound samples
+module _ (P : List ℕ → Type 0) (all : (r b a K M : ℕ) (f : List ℤ) → Recordable r b a K M f → P (recordOf r b a K M f)) where
+  pub read-written : {s : List ℕ} → Bytes s → readRecord s .answer .number ≡ 0 → P s
+  unfolding readRecord recordOf field bytes
+  read-written {s} h =
+      reading-bytes Q 1 2 h _ refused λ r s₁ l₁ h₁ e₁.
+      reading-bytes Q 2 1 h₁ _ refused λ b s₂ l₂ h₂ e₂.
+      reading-bytes Q 3 1 h₂ _ refused λ a s₃ l₃ h₃ e₃.
+      reading-bytes Q 4 1 h₃ _ refused λ K s₄ l₄ h₄ e₄.
+      reading-bytes Q 5 4 h₄ _ refused λ M s₅ l₅ h₅ e₅.
+      if-passed Q (holdsSamples s₅) refused λ e z.
+      samples-held h₅ e λ f fit enough few e₆.
+      let ok : Recordable r b a K M f = record { radius = l₁; inner = l₂; edge = l₃; passes = l₄; bound = l₅; samples = fit; enough = enough; few = few } in
+      rw (e₁, e₂, e₃, e₄, e₅, e₆) (all r b a K M f ok)
+    where
+      Q : Job → Type 0
+      Q j = j .answer .number ≡ 0 → P s
 
-accepted : {s : List ℕ} → Bytes s → readRecord s .answer .number ≡ 0 → Accepted s
-unfolding readRecord recordOf field bytes
-accepted {s} h =
-    reading-bytes P 1 2 h _ refused λ r s₁ l₁ h₁ e₁.
-    reading-bytes P 2 1 h₁ _ refused λ b s₂ l₂ h₂ e₂.
-    reading-bytes P 3 1 h₂ _ refused λ a s₃ l₃ h₃ e₃.
-    reading-bytes P 4 1 h₃ _ refused λ K s₄ l₄ h₄ e₄.
-    reading-bytes P 5 4 h₄ _ refused λ M s₅ l₅ h₅ e₅.
-    if-passed P (holdsSamples s₅) refused λ e z.
-    let o = samples-held h₅ e in
-    record {
-      radius = r;
-      inner = b;
-      edge = a;
-      passes = K;
-      bound = M;
-      samples = o .samples;
-      ok = record { radius = l₁; inner = l₂; edge = l₃; passes = l₄; bound = l₅; samples = o .fit; enough = o .enough; few = o .few };
-      same = cc (o .same);
-    }
-  where
-    P : Job → Type 0
-    P j = j .answer .number ≡ 0 → Accepted s
-
-    refused : P notWellFormed
-    refused e = let no : ⊥ = omega arith in absurd no
-
-abbrev written : Job → List ℤ → List ℕ
-written j f = recordOf (j .radius) (j .inner) (j .edge) (j .passes) (j .bound) f
-
-abbrev Writable : Job → List ℤ → Type 0
-Writable j f = Recordable (j .radius) (j .inner) (j .edge) (j .passes) (j .bound) f
-
-both-ways : {r b a K M : ℕ} {f : List ℤ} (s : List ℕ) → Recordable r b a K M f → s ≡ recordOf r b a K M f → (written (readRecord s) (samplesOf (readRecord s) s) ≡ s) × Writable (readRecord s) (samplesOf (readRecord s) s)
-both-ways s ok e = rw (e, samples-recordOf ok, read-recordOf ok) (refl, ok)
+      refused : Q notWellFormed
+      refused e = let no : ⊥ = omega arith in absurd no
 
 module _ {s : List ℕ} (h : Bytes s) (z : readRecord s .answer .number ≡ 0) where
   pub recordOf-read : let j = readRecord s in recordOf (j .radius) (j .inner) (j .edge) (j .passes) (j .bound) (samplesOf j s) ≡ s
-  recordOf-read = both-ways s (accepted h z .ok) (accepted h z .same) .0
+  recordOf-read = read-written (λ s. let j = readRecord s in recordOf (j .radius) (j .inner) (j .edge) (j .passes) (j .bound) (samplesOf j s) ≡ s) (λ r b a K M f ok. rw (samples-recordOf ok, read-recordOf ok)) h z
 
   pub read-recordable : let j = readRecord s in Recordable (j .radius) (j .inner) (j .edge) (j .passes) (j .bound) (samplesOf j s)
-  read-recordable = both-ways s (accepted h z .ok) (accepted h z .same) .1
+  read-recordable = read-written (λ s. let j = readRecord s in Recordable (j .radius) (j .inner) (j .edge) (j .passes) (j .bound) (samplesOf j s)) (λ r b a K M f ok. rw (samples-recordOf ok, read-recordOf ok) ok) h z
 
--- ---- its stretch
+-- ---- what the reader answers
 pub record Stretch (s : List ℕ) (j : Job) : Type 0 where
   pub start : j .start ≡ 27
   pub size : j .size ≡ 4 * length (samplesOf j s)
@@ -345,6 +321,7 @@ pub record Stretch (s : List ℕ) (j : Job) : Type 0 where
   pub few : j .size / 4 ≤ maxSamples
   pub rest : stretch (j .start) (j .size) s ≡ drop 27 s
 
+-- by lengths alone, so of lists that need not be bytes
 stretched : (s s₅ : List ℕ) → length s₅ ≡ length s - 24 → holdsSamples s₅ ≡ true → (j : Job) → j .start ≡ length s - (length s₅ - 3) → j .size ≡ length s₅ - 3 → Stretch s j
 unfolding samplesOf stretch
 stretched s s₅ l e j start size =
