@@ -20,6 +20,7 @@
 --   Places       the first place where a test is true
 --   Tests        tests that fail, and why
 --   Encoding     numbers as bytes and as text
+--   Records      the job record: what is written is read, what is read as done was written
 --   Accepted     a call is done exactly where the bounds hold
 -- A law over an index map φ takes `F : Folding φ`, and where it speaks of reach `C : Nearness φ`: for document 01, half-sample and half-sample-near.
 pub mod Folding
@@ -43,4 +44,5 @@ pub mod Refusals
 pub mod Places
 pub mod Tests
 pub mod Encoding
+pub mod Records
 pub mod Accepted
