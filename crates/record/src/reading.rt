@@ -3,7 +3,6 @@ ghost use mathlib.Core.Path.{_≡_};
 ghost use Prim.Native.Nat.{_^_, _≤_, _<_};
 ghost use lib.ListN.{length, drop};
 ghost use Rattle.meaning.specs.Record as M;
-ghost use Rattle.record.specs.Structs.{jobOf};
 ghost use Rattle.record.specs.Reading.{numberField, samplesField};
 use crate::Job;
 
@@ -17,21 +16,6 @@ pub(crate) enum Field {
 pub(crate) enum Stretch {
     Samples(usize, usize),
     Other,
-}
-
-pub(crate) fn refused() -> Job
-    ensures { λ r. ⌜ jobOf r ≡ M.notWellFormed ⌝ }
-{
-    Job {
-        number: 14,
-        radius: 0,
-        inner: 0,
-        edge: 0,
-        passes: 0,
-        bound: 0,
-        start: 0,
-        size: 0,
-    }
 }
 
 // Is there a field of this tag and so many bytes?

@@ -17,11 +17,8 @@ enum-known-radius c = search needs
 enum-told : tie.Need-enum-told
 enum-told c = search needs
 
-refused-requires : tie.Need-refused-requires
-refused-requires c κs = search needs
-
 returns : tie.Need-returns
-returns c = c .refused .ensures ∙ stops-1 _ (sym (c .before .before .before .number-field .ensures) ∙ c .before .enum-told .given .1)
+returns c = stops-1 _ (sym (c .before .before .number-field .ensures) ∙ c .enum-told .given .1)
 
 first : (c : tie.After-known-told) → numberField 1 2 0 (c .before .before .before .before .before .args .bytes .now) ≡ F.Number (c .before .radius .given .0 .0) (c .before .radius .given .0 .1 .0)
 first c = sym (c .before .before .before .number-field .ensures) ∙ c .before .radius .given .1
@@ -35,11 +32,8 @@ enum-known-inner c = search needs
 enum-told-2 : tie.Need-enum-told-2
 enum-told-2 c = search needs
 
-refused-requires-2 : tie.Need-refused-requires-2
-refused-requires-2 c κs = search needs
-
 returns-2 : tie.Need-returns-2
-returns-2 c = c .refused2 .ensures ∙ stops-2 _ (first (c .before .before .before .before)) (sym (c .before .before .before .number-field2 .ensures) ∙ c .before .enum-told2 .given .1)
+returns-2 c = stops-2 _ (first (c .before .before .before)) (sym (c .before .before .number-field2 .ensures) ∙ c .enum-told2 .given .1)
 
 second : (c : tie.After-known-told2) → numberField 2 1 (c .before .before .before .before .before .radius .given .0 .1 .0) (c .before .before .before .before .before .before .before .before .before .args .bytes .now) ≡ F.Number (c .before .inner .given .0 .0) (c .before .inner .given .0 .1 .0)
 second c = sym (c .before .before .before .number-field2 .ensures) ∙ c .before .inner .given .1
@@ -53,11 +47,8 @@ enum-known-edge c = search needs
 enum-told-3 : tie.Need-enum-told-3
 enum-told-3 c = search needs
 
-refused-requires-3 : tie.Need-refused-requires-3
-refused-requires-3 c κs = search needs
-
 returns-3 : tie.Need-returns-3
-returns-3 c = c .refused3 .ensures ∙ stops-3 _ (first (c .before .before .before .before .before .before .before .before)) (second (c .before .before .before .before)) (sym (c .before .before .before .number-field3 .ensures) ∙ c .before .enum-told3 .given .1)
+returns-3 c = stops-3 _ (first (c .before .before .before .before .before .before .before)) (second (c .before .before .before)) (sym (c .before .before .number-field3 .ensures) ∙ c .enum-told3 .given .1)
 
 third : (c : tie.After-known-told3) → numberField 3 1 (c .before .before .before .before .before .inner .given .0 .1 .0) (c .before .before .before .before .before .before .before .before .before .before .before .before .before .args .bytes .now) ≡ F.Number (c .before .edge .given .0 .0) (c .before .edge .given .0 .1 .0)
 third c = sym (c .before .before .before .number-field3 .ensures) ∙ c .before .edge .given .1
@@ -71,11 +62,8 @@ enum-known-passes c = search needs
 enum-told-4 : tie.Need-enum-told-4
 enum-told-4 c = search needs
 
-refused-requires-4 : tie.Need-refused-requires-4
-refused-requires-4 c κs = search needs
-
 returns-4 : tie.Need-returns-4
-returns-4 c = c .refused4 .ensures ∙ stops-4 _ (first (c .before .before .before .before .before .before .before .before .before .before .before .before)) (second (c .before .before .before .before .before .before .before .before)) (third (c .before .before .before .before)) (sym (c .before .before .before .number-field4 .ensures) ∙ c .before .enum-told4 .given .1)
+returns-4 c = stops-4 _ (first (c .before .before .before .before .before .before .before .before .before .before .before)) (second (c .before .before .before .before .before .before .before)) (third (c .before .before .before)) (sym (c .before .before .number-field4 .ensures) ∙ c .enum-told4 .given .1)
 
 fourth : (c : tie.After-known-told4) → numberField 4 1 (c .before .before .before .before .before .edge .given .0 .1 .0) (c .before .before .before .before .before .before .before .before .before .before .before .before .before .before .before .before .before .args .bytes .now) ≡ F.Number (c .before .passes .given .0 .0) (c .before .passes .given .0 .1 .0)
 fourth c = sym (c .before .before .before .number-field4 .ensures) ∙ c .before .passes .given .1
@@ -89,11 +77,8 @@ enum-known-bound c = search needs
 enum-told-5 : tie.Need-enum-told-5
 enum-told-5 c = search needs
 
-refused-requires-5 : tie.Need-refused-requires-5
-refused-requires-5 c κs = search needs
-
 returns-5 : tie.Need-returns-5
-returns-5 c = c .refused5 .ensures ∙ stops-5 _ (first (c .before .before .before .before .before .before .before .before .before .before .before .before .before .before .before .before)) (second (c .before .before .before .before .before .before .before .before .before .before .before .before)) (third (c .before .before .before .before .before .before .before .before)) (fourth (c .before .before .before .before)) (sym (c .before .before .before .number-field5 .ensures) ∙ c .before .enum-told5 .given .1)
+returns-5 c = stops-5 _ (first (c .before .before .before .before .before .before .before .before .before .before .before .before .before .before .before)) (second (c .before .before .before .before .before .before .before .before .before .before .before)) (third (c .before .before .before .before .before .before .before)) (fourth (c .before .before .before)) (sym (c .before .before .number-field5 .ensures) ∙ c .enum-told5 .given .1)
 
 fifth : (c : tie.After-known-told5) → numberField 5 4 (c .before .before .before .before .before .passes .given .0 .1 .0) (c .before .before .before .before .before .before .before .before .before .before .before .before .before .before .before .before .before .before .before .before .before .args .bytes .now) ≡ F.Number (c .before .bound .given .0 .0) (c .before .bound .given .0 .1 .0)
 fifth c = sym (c .before .before .before .number-field5 .ensures) ∙ c .before .bound .given .1
@@ -107,11 +92,8 @@ enum-known-start c = search needs
 enum-told-6 : tie.Need-enum-told-6
 enum-told-6 c = search needs
 
-refused-requires-6 : tie.Need-refused-requires-6
-refused-requires-6 c κs = search needs
-
 returns-6 : tie.Need-returns-6
-returns-6 c = c .refused6 .ensures ∙ stops-6 _ (first (c .before .before .before .before .before .before .before .before .before .before .before .before .before .before .before .before .before .before .before .before)) (second (c .before .before .before .before .before .before .before .before .before .before .before .before .before .before .before .before)) (third (c .before .before .before .before .before .before .before .before .before .before .before .before)) (fourth (c .before .before .before .before .before .before .before .before)) (fifth (c .before .before .before .before)) (sym (c .before .before .before .samples-field .ensures) ∙ c .before .enum-told6 .given .1)
+returns-6 c = stops-6 _ (first (c .before .before .before .before .before .before .before .before .before .before .before .before .before .before .before .before .before .before .before)) (second (c .before .before .before .before .before .before .before .before .before .before .before .before .before .before .before)) (third (c .before .before .before .before .before .before .before .before .before .before .before)) (fourth (c .before .before .before .before .before .before .before)) (fifth (c .before .before .before)) (sym (c .before .before .samples-field .ensures) ∙ c .enum-told6 .given .1)
 
 in-bytes : (c : tie.After-known-told6) → Bytes (c .before .before .before .before .before .before .before .before .before .before .before .before .before .before .before .before .before .before .before .before .before .before .before .before .before .args .bytes .now)
 in-bytes c = record { byte = λ i. c .before .before .before .before .before .before .before .before .before .before .before .before .before .before .before .before .before .before .before .before .before .before .before .before .shared-slice-known .given i .fits }
@@ -141,32 +123,26 @@ read-record-spec =
     number-field-requires
     enum-known-radius
     enum-told
-    refused-requires
     returns
     number-field-requires-2
     enum-known-inner
     enum-told-2
-    refused-requires-2
     returns-2
     number-field-requires-3
     enum-known-edge
     enum-told-3
-    refused-requires-3
     returns-3
     number-field-requires-4
     enum-known-passes
     enum-told-4
-    refused-requires-4
     returns-4
     number-field-requires-5
     enum-known-bound
     enum-told-5
-    refused-requires-5
     returns-5
     samples-field-requires
     enum-known-start
     enum-told-6
-    refused-requires-6
     returns-6
     cast-t20
     cast-t21
