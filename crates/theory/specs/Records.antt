@@ -6,7 +6,7 @@
 -- length-sampleBytes, sampleBytes-append, sampleBytes-next (one sample more); sampleAt-in, sampleAt-past; sampleAt-fits, samples-fit (samples read fit);
 -- sampleAt-bytes, samples-bytes, bytes-samples (samples and bytes undo each other);
 -- length-recordOf; bytes-append, bytes-sampleBytes, bytes-recordOf (these are bytes);
--- read-recordOf, samples-recordOf (what is written is read);
+-- read-recordOf, stretch-recordOf, samples-recordOf (what is written is read);
 -- read-written (what holds of every record written holds of one read as done), recordOf-read, read-recordable;
 -- read-either, read-number, read-refused (done or not well-formed), read-stretch (of a done one).
 use mathlib.Core.Path.{_≡_, refl, sym, _∙_, ap₂}
@@ -236,7 +236,7 @@ read-recordOf {r} {b} {a} {K} {M} {f} ok =
     ∙ reading-number 5 4 s₅ _ (ok .bound) (omega arith)
     ∙ rw (holds-samples f (ok .enough) (ok .few), start, size)
 
-stretch-recordOf : (r b a K M : ℕ) (f : List ℤ) → stretch 27 (4 * length f) (recordOf r b a K M f) ≡ sampleBytes f
+pub stretch-recordOf : (r b a K M : ℕ) (f : List ℤ) → stretch 27 (4 * length f) (recordOf r b a K M f) ≡ sampleBytes f
 unfolding stretch recordOf field bytes
 stretch-recordOf r b a K M f = rw (← length-sampleBytes f) (take-length (sampleBytes f))
 
