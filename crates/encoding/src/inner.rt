@@ -18,7 +18,7 @@ pub fn number_at(s: &[u8], at: usize, n: usize) -> u64
     let mut x: u64 = 0;
     let mut i: usize = 0;
     while i < n {
-        x = x * 256 + s[at + i] as u64;
+        x = s[at + i] as u64 + x * 256;
         i += 1;
     }
     x

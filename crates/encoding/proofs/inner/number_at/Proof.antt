@@ -18,8 +18,8 @@ use Rattle.encoding.proofs.inner.number_at.Tie as tie
 below : (x i n : ℕ) → i < n → n ≤ 8 → x < 256 ^ i → x < 2 ^ 56
 below x i n h k l = omega (arith, pow-le-pow-right {n = 256} (omega arith) {i = i} {j = 7} (omega arith))
 
-next : (s : List ℕ) (at i x : ℕ) → at + i < length s → x ≡ number (take i (drop at s)) → x * 256 + getD s (at + i) 0 ≡ number (take (i + 1) (drop at s))
-next s at i x h e = rw (number-more (drop at s) i (omega (arith, length-drop at s)), ← e, getD-drop at s i 0) refl
+next : (s : List ℕ) (at i x : ℕ) → at + i < length s → x ≡ number (take i (drop at s)) → getD s (at + i) 0 + x * 256 ≡ number (take (i + 1) (drop at s))
+next s at i x h e = rw (number-more (drop at s) i (omega (arith, length-drop at s)), ← e, getD-drop at s i 0) (omega arith)
 
 abbrev Inv-loop : tie.InvT-loop
 Inv-loop s at n x₀ i₀ x i = (i ≤ n) × (x < 256 ^ i) × (x ≡ number (take i (drop at s)))
@@ -31,9 +31,6 @@ loop-holds : tie.Need-loop-holds Inv-loop μ-loop
 unfolding number
 loop-holds c = (omega arith, omega arith, refl)
 
-mul-x : tie.Need-mul-x Inv-loop μ-loop
-mul-x c = omega (arith, below (c .before .loop .x) (c .before .loop .i) (c .before .before .args .n) (omega arith) (omega arith) (omega arith))
-
 add-x : tie.Need-add-x Inv-loop μ-loop
 add-x c = search needs
 
@@ -43,11 +40,17 @@ shared-slice-read-x c = search needs
 byte : (c : tie.After-shared-slice-known Inv-loop μ-loop) → Fits w8 (getD (c .before .before .before .args .s .now) (c .before .before .before .args .at + c .before .before .loop .i) 0)
 byte c = c .shared-slice-known .given _
 
+small : (c : tie.After-shared-slice-known Inv-loop μ-loop) → c .before .before .loop .x < 2 ^ 56
+small c = below (c .before .before .loop .x) (c .before .before .loop .i) (c .before .before .before .args .n) (omega arith) (omega arith) (omega arith)
+
 cast-x : tie.Need-cast-x Inv-loop μ-loop
 cast-x c = omega (arith, byte c)
 
+mul-x : tie.Need-mul-x Inv-loop μ-loop
+mul-x c = omega (arith, byte c, small c)
+
 add-x-2 : tie.Need-add-x-2 Inv-loop μ-loop
-add-x-2 c = omega (arith, byte c, below (c .before .before .loop .x) (c .before .before .loop .i) (c .before .before .before .args .n) (omega arith) (omega arith) (omega arith))
+add-x-2 c = omega (arith, byte c, small c)
 
 add-i : tie.Need-add-i Inv-loop μ-loop
 add-i c = search needs
@@ -70,10 +73,10 @@ number-at-spec =
     Inv-loop
     μ-loop
     loop-holds
-    mul-x
     add-x
     shared-slice-read-x
     cast-x
+    mul-x
     add-x-2
     add-i
     loop-less
