@@ -3,7 +3,6 @@ ghost use mathlib.Core.Path.{_≡_};
 ghost use Prim.Native.Nat.{_%_, _^_, _≤_};
 ghost use mir.Syntax.{w32, w64};
 ghost use mir.Val.{toZ};
-ghost use Rattle.meaning.specs.Encoding.{number};
 ghost use Rattle.calls.specs.Front.{Counts};
 use crate::output;
 use plan::Plan;
@@ -11,7 +10,7 @@ use plan::Plan;
 pub(crate) fn word(open: &mut bool) -> u64 {
     let mut bytes = [0u8; 8];
     if *open && io::read_full(libc::STDIN_FILENO, &mut bytes) == 8 {
-        return word_of(bytes);
+        return encoding::inner::number_at(&bytes, 0, 8);
     }
     *open = false;
     0
@@ -59,16 +58,6 @@ fn length(open: &mut bool, most: usize) -> usize
     length as usize
 }
 
-fn word_of(bytes: [u8; 8]) -> u64
-    ensures { λ r. ⌜ r ≡ number bytes ⌝ }
-{
-    let mut word = 0;
-    for i in 0..8 {
-        word = word * 256 + bytes[i] as u64;
-    }
-    word
-}
-
 fn whole_of(word: u64) -> i64
     ensures { λ r. ⌜ r ≡ toZ w64 word ⌝ }
 {
@@ -81,9 +70,5 @@ fn whole_of(word: u64) -> i64
 fn sample_of(word: u64) -> i32
     ensures { λ r. ⌜ r ≡ toZ w32 (word % 2 ^ 32) ⌝ }
 {
-    let bits = word % 4294967296;
-    if bits < 2147483648 {
-        return bits as i32;
-    }
-    !((4294967295 - bits) as i32)
+    encoding::inner::signed((word % 4294967296) as u32)
 }
