@@ -46,6 +46,17 @@ pub(crate) fn wholes(open: &mut bool, room: &mut [i64]) -> usize
     count
 }
 
+// The same of a byte each.
+pub(crate) fn bytes(open: &mut bool, room: &mut [u8]) -> usize
+    ensures { λ r. ⌜ Counts r (now (room .exit)) ⌝ }
+{
+    let count = length(open, room.len());
+    for i in 0..count {
+        room[i] = byte_of(word(open));
+    }
+    count
+}
+
 fn length(open: &mut bool, most: usize) -> usize
     ensures { λ r. ⌜ r ≤ most ⌝ }
 {
@@ -71,4 +82,10 @@ fn sample_of(word: u64) -> i32
     ensures { λ r. ⌜ r ≡ toZ w32 (word % 2 ^ 32) ⌝ }
 {
     encoding::inner::signed((word % 4294967296) as u32)
+}
+
+pub(crate) fn byte_of(word: u64) -> u8
+    ensures { λ r. ⌜ r ≡ word % 256 ⌝ }
+{
+    (word % 256) as u8
 }

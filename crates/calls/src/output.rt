@@ -1,6 +1,7 @@
 // Lines of standard output: words with one space between.
 ghost use mathlib.Core.Path.{_≡_};
-ghost use Prim.Native.Nat.{_+_, _^_, _<_};
+ghost use Prim.Native.Nat.{_+_, _^_, _≤_, _<_};
+ghost use lib.ListN.{length};
 ghost use Rattle.meaning.specs.Extension.{emod};
 ghost use Rattle.calls.specs.Checksum.{modulus, gained, checksumOf};
 use encoding::inner::magnitude;
@@ -36,6 +37,16 @@ pub(crate) fn wholes(values: &[i64]) {
     } else {
         elements(values);
     }
+}
+
+// Bytes are printed as whole numbers, which stand in the front of room for that.
+pub(crate) fn bytes(values: &[u8], room: &mut [i64])
+    requires { ⌜ length (now values) ≤ length (now room) ⌝ }
+{
+    for i in 0..values.len() {
+        room[i] = values[i] as i64;
+    }
+    wholes(&room[..values.len()]);
 }
 
 pub(crate) fn end_line() {
