@@ -16,6 +16,10 @@ pub(crate) fn word(open: &mut bool) -> u64 {
     0
 }
 
+pub(crate) fn byte(open: &mut bool) -> u8 {
+    (word(open) % 256) as u8
+}
+
 pub(crate) fn plan(open: &mut bool) -> Plan {
     let radius = word(open);
     let inner = word(open);
@@ -52,7 +56,7 @@ pub(crate) fn bytes(open: &mut bool, room: &mut [u8]) -> usize
 {
     let count = length(open, room.len());
     for i in 0..count {
-        room[i] = byte_of(word(open));
+        room[i] = byte(open);
     }
     count
 }
@@ -82,10 +86,4 @@ fn sample_of(word: u64) -> i32
     ensures { λ r. ⌜ r ≡ toZ w32 (word % 2 ^ 32) ⌝ }
 {
     encoding::inner::signed((word % 4294967296) as u32)
-}
-
-pub(crate) fn byte_of(word: u64) -> u8
-    ensures { λ r. ⌜ r ≡ word % 256 ⌝ }
-{
-    (word % 256) as u8
 }

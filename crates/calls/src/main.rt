@@ -22,6 +22,7 @@ fn main() {
     run(&mut samples, &mut results, &mut work, &mut bytes);
 }
 
+// Bytes are printed from the work, so it is as long as they are.
 fn run(samples: &mut [i32], results: &mut [i64], work: &mut [i64], bytes: &mut [u8])
     requires { ⌜ length (now bytes) ≤ length (now work) ⌝ }
 {

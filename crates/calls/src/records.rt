@@ -30,9 +30,9 @@ pub(crate) fn write_record(open: &mut bool, samples: &mut [i32], bytes: &mut [u8
     requires { ⌜ length (now bytes) ≤ length (now work) ⌝ }
 {
     let radius = (input::word(open) % 65536) as u16;
-    let inner = input::byte_of(input::word(open));
-    let edge = input::byte_of(input::word(open));
-    let passes = input::byte_of(input::word(open));
+    let inner = input::byte(open);
+    let edge = input::byte(open);
+    let passes = input::byte(open);
     let bound = (input::word(open) % 4294967296) as u32;
     let n = input::samples(open, samples);
     let size = input::bytes(open, bytes);

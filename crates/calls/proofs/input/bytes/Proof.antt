@@ -8,7 +8,7 @@ use Rattle.calls.proofs.input.bytes.Statement.{statement}
 use Rattle.calls.proofs.input.bytes.Tie as tie
 
 abbrev Inv-loop : tie.InvT-loop
-Inv-loop open₀ room₀ count i₀ «open» room i = (i ≤ count) × (count ≤ length room₀) × (length room ≡ length room₀)
+Inv-loop open₀ room₀ count i₀ «open» room i = (i ≤ count) × (length room ≡ length room₀)
 
 abbrev μ-loop : tie.MeasureT-loop
 μ-loop open₀ room₀ count i₀ «open» room i = count - i
@@ -19,11 +19,8 @@ length-requires c κs = search needs
 loop-holds : tie.Need-loop-holds Inv-loop μ-loop
 loop-holds c = search needs
 
-word-requires : tie.Need-word-requires Inv-loop μ-loop
-word-requires c κs = search needs
-
-byte-of-requires : tie.Need-byte-of-requires Inv-loop μ-loop
-byte-of-requires c κs = search needs
+byte-requires : tie.Need-byte-requires Inv-loop μ-loop
+byte-requires c κs = search needs
 
 slice-write-room : tie.Need-slice-write-room Inv-loop μ-loop
 slice-write-room c = search needs
@@ -51,8 +48,7 @@ bytes-spec =
     μ-loop
     length-requires
     loop-holds
-    word-requires
-    byte-of-requires
+    byte-requires
     slice-write-room
     add-i
     loop-less

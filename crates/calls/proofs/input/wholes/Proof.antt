@@ -8,7 +8,7 @@ use Rattle.calls.proofs.input.wholes.Statement.{statement}
 use Rattle.calls.proofs.input.wholes.Tie as tie
 
 abbrev Inv-loop : tie.InvT-loop
-Inv-loop open₀ room₀ count i₀ «open» room i = (i ≤ count) × (count ≤ length room₀) × (length room ≡ length room₀)
+Inv-loop open₀ room₀ count i₀ «open» room i = (i ≤ count) × (length room ≡ length room₀)
 
 abbrev μ-loop : tie.MeasureT-loop
 μ-loop open₀ room₀ count i₀ «open» room i = count - i

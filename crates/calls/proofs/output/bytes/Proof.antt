@@ -1,4 +1,4 @@
--- The room is as long as the bytes, and the loop keeps its length.
+-- The room is long enough, and the loop keeps its length.
 use mathlib.Core.Path.{_≡_}
 use Prim.Native.Nat.{_-_, _≤_}
 use native.Mathlib.Omega.{arith}
