@@ -3,7 +3,6 @@ ghost use mathlib.Core.Path.{_≡_};
 ghost use Prim.Native.Nat.{_%_, _^_, _≤_};
 ghost use mir.Syntax.{w32, w64};
 ghost use mir.Val.{toZ};
-ghost use Rattle.meaning.specs.Encoding.{number};
 ghost use Rattle.calls.specs.Front.{Counts};
 use crate::output;
 use plan::Plan;
@@ -11,10 +10,14 @@ use plan::Plan;
 pub(crate) fn word(open: &mut bool) -> u64 {
     let mut bytes = [0u8; 8];
     if *open && io::read_full(libc::STDIN_FILENO, &mut bytes) == 8 {
-        return word_of(bytes);
+        return encoding::inner::number_at(&bytes, 0, 8);
     }
     *open = false;
     0
+}
+
+pub(crate) fn byte(open: &mut bool) -> u8 {
+    (word(open) % 256) as u8
 }
 
 pub(crate) fn plan(open: &mut bool) -> Plan {
@@ -47,6 +50,17 @@ pub(crate) fn wholes(open: &mut bool, room: &mut [i64]) -> usize
     count
 }
 
+// The same of a byte each.
+pub(crate) fn bytes(open: &mut bool, room: &mut [u8]) -> usize
+    ensures { λ r. ⌜ Counts r (now (room .exit)) ⌝ }
+{
+    let count = length(open, room.len());
+    for i in 0..count {
+        room[i] = byte(open);
+    }
+    count
+}
+
 fn length(open: &mut bool, most: usize) -> usize
     ensures { λ r. ⌜ r ≤ most ⌝ }
 {
@@ -57,16 +71,6 @@ fn length(open: &mut bool, most: usize) -> usize
         return 0;
     }
     length as usize
-}
-
-fn word_of(bytes: [u8; 8]) -> u64
-    ensures { λ r. ⌜ r ≡ number bytes ⌝ }
-{
-    let mut word = 0;
-    for i in 0..8 {
-        word = word * 256 + bytes[i] as u64;
-    }
-    word
 }
 
 fn whole_of(word: u64) -> i64
@@ -81,9 +85,5 @@ fn whole_of(word: u64) -> i64
 fn sample_of(word: u64) -> i32
     ensures { λ r. ⌜ r ≡ toZ w32 (word % 2 ^ 32) ⌝ }
 {
-    let bits = word % 4294967296;
-    if bits < 2147483648 {
-        return bits as i32;
-    }
-    !((4294967295 - bits) as i32)
+    encoding::inner::signed((word % 4294967296) as u32)
 }

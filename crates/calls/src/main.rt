@@ -1,7 +1,11 @@
 // Runs test vectors through the public calls: a stream of words in, a line a call out.
+ghost use Prim.Native.Nat.{_≤_};
+ghost use lib.ListN.{length};
+
 mod input;
 mod output;
 mod plans;
+mod records;
 mod smoothing;
 
 // A longer slice ends the stream.
@@ -14,22 +18,30 @@ fn main() {
     let mut samples = [0i32; MOST_ELEMENTS];
     let mut results = [0i64; MOST_ELEMENTS];
     let mut work = [0i64; MOST_ELEMENTS];
-    run(&mut samples, &mut results, &mut work);
+    let mut bytes = [0u8; MOST_ELEMENTS];
+    run(&mut samples, &mut results, &mut work, &mut bytes);
 }
 
-fn run(samples: &mut [i32], results: &mut [i64], work: &mut [i64]) {
+// Bytes are printed from the work, so it is as long as they are.
+fn run(samples: &mut [i32], results: &mut [i64], work: &mut [i64], bytes: &mut [u8])
+    requires { ⌜ length (now bytes) ≤ length (now work) ⌝ }
+{
     for _ in 0..MOST_CALLS {
-        if !one_call(samples, results, work) {
+        if !one_call(samples, results, work, bytes) {
             return;
         }
     }
 }
 
 // Whether the stream goes on. A number of no call ends it too.
-fn one_call(samples: &mut [i32], results: &mut [i64], work: &mut [i64]) -> bool {
+fn one_call(samples: &mut [i32], results: &mut [i64], work: &mut [i64], bytes: &mut [u8]) -> bool
+    requires { ⌜ length (now bytes) ≤ length (now work) ⌝ }
+{
     let mut open = true;
     match input::word(&mut open) {
         1 => smoothing::smooth_series(&mut open, samples, results, work),
+        13 => records::read_record(&mut open, bytes),
+        14 => records::write_record(&mut open, samples, bytes, work),
         100 => plans::divisor_and_reach(&mut open),
         _ => {
             open = false;

@@ -1,9 +1,10 @@
 // Lines of standard output: words with one space between.
 ghost use mathlib.Core.Path.{_≡_};
-ghost use Prim.Native.Nat.{_+_, _^_, _<_};
-ghost use lib.Signed.{mag};
+ghost use Prim.Native.Nat.{_+_, _^_, _≤_, _<_};
+ghost use lib.ListN.{length};
 ghost use Rattle.meaning.specs.Extension.{emod};
 ghost use Rattle.calls.specs.Checksum.{modulus, gained, checksumOf};
+use encoding::inner::magnitude;
 use libc::STDOUT_FILENO;
 use plan::Answer;
 
@@ -38,6 +39,16 @@ pub(crate) fn wholes(values: &[i64]) {
     }
 }
 
+// Bytes are printed as whole numbers, which stand in the front of room for that.
+pub(crate) fn bytes(values: &[u8], room: &mut [i64])
+    requires { ⌜ length (now values) ≤ length (now room) ⌝ }
+{
+    for i in 0..values.len() {
+        room[i] = values[i] as i64;
+    }
+    wholes(&room[..values.len()]);
+}
+
 pub(crate) fn end_line() {
     io::write_all(STDOUT_FILENO, b"\n");
 }
@@ -56,20 +67,10 @@ fn elements(values: &[i64]) {
 fn whole(value: i64) {
     if value < 0 {
         io::write_all(STDOUT_FILENO, b" -");
-        io::print_decimal(STDOUT_FILENO, size(value) + 1);
+        io::print_decimal(STDOUT_FILENO, magnitude(value) + 1);
     } else {
-        number(size(value));
+        number(magnitude(value));
     }
-}
-
-// n of n, and of -n - 1, so that every i64 has one.
-fn size(value: i64) -> u64
-    ensures { λ r. ⌜ (r ≡ mag value) × (r < 2 ^ 63) ⌝ }
-{
-    if value < 0 {
-        return (!value) as u64;
-    }
-    value as u64
 }
 
 fn checksum(values: &[i64]) -> u64
@@ -93,7 +94,7 @@ fn residue(value: i64) -> u64
     ensures { λ r. ⌜ r ≡ emod value modulus ⌝ }
 {
     if value < 0 {
-        return MODULUS - 1 - size(value) % MODULUS;
+        return MODULUS - 1 - magnitude(value) % MODULUS;
     }
-    size(value) % MODULUS
+    magnitude(value) % MODULUS
 }

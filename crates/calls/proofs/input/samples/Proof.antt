@@ -1,14 +1,14 @@
 -- The length read is at most that of the room, which the loop keeps.
-use mathlib.Core.Path.{_≡_, sym}
+use mathlib.Core.Path.{_≡_}
 use Prim.Native.Nat.{_-_, _≤_}
 use borrow.Author.Needs.{needs}
 use lib.ListN.{length}
-use lib.Seq.{length-take-le}
+use Rattle.calls.specs.Front.{counts}
 use Rattle.calls.proofs.input.samples.Statement.{statement}
 use Rattle.calls.proofs.input.samples.Tie as tie
 
 abbrev Inv-loop : tie.InvT-loop
-Inv-loop open₀ room₀ count i₀ «open» room i = (i ≤ count) × (count ≤ length room₀) × (length room ≡ length room₀)
+Inv-loop open₀ room₀ count i₀ «open» room i = (i ≤ count) × (length room ≡ length room₀)
 
 abbrev μ-loop : tie.MeasureT-loop
 μ-loop open₀ room₀ count i₀ «open» room i = count - i
@@ -44,10 +44,7 @@ same-length : tie.Need-same-length Inv-loop μ-loop
 same-length c = search needs
 
 returns : tie.Need-returns Inv-loop μ-loop
-returns c =
-    let count = c .before .before .length .result in
-    let within : count ≤ length (c .before .loop .room) = search needs in
-    (within, sym (length-take-le count (c .before .loop .room) within))
+returns c = counts _ _ (search needs)
 
 pub samples-spec : {M : Type 1} → statement M
 samples-spec =

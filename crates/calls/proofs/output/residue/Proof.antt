@@ -1,7 +1,7 @@
 -- Of -n - 1 the remainder is what n's lacks of the modulus less 1.
 use mathlib.Core.Path.{_≡_}
 use mathlib.Core.Bool.{true, false}
-use Prim.Native.Nat.{ℕ, suc, _-_, _%_}
+use Prim.Native.Nat.{ℕ, _-_, _%_}
 use native.Mathlib.Omega.{arith}
 use borrow.Author.Needs.{needs}
 use borrow.Author.Tests.{ltb-true}
@@ -27,8 +27,8 @@ above (negsuc n) t e = let no : _≡_ {A = ℕ} 0 1 = cc in absurd (omega arith)
 sub-result : tie.Need-sub-result
 sub-result c = search needs
 
-size-requires : tie.Need-size-requires
-size-requires c κs = search needs
+magnitude-requires : tie.Need-magnitude-requires
+magnitude-requires c κs = search needs
 
 sub-result-2 : tie.Need-sub-result-2
 sub-result-2 c = search needs
@@ -37,16 +37,16 @@ returns : tie.Need-returns
 returns c =
     let z = c .before .before .args .value in
     let back = toZ-ofZ w64 z (c .before .before .fits .value) in
-    below z (rw back at (c .before .if1 .taken)) (rw back at (c .size .ensures .0))
+    below z (rw back at (c .before .if1 .taken)) (rw back at (c .magnitude .ensures .0))
 
-size-requires-2 : tie.Need-size-requires-2
-size-requires-2 c κs = search needs
+magnitude-requires-2 : tie.Need-magnitude-requires-2
+magnitude-requires-2 c κs = search needs
 
 returns-2 : tie.Need-returns-2
 returns-2 c =
     let z = c .before .before .args .value in
     let back = toZ-ofZ w64 z (c .before .before .fits .value) in
-    above z (rw back at (c .before .if1 .left)) (rw back at (c .size2 .ensures .0))
+    above z (rw back at (c .before .if1 .left)) (rw back at (c .magnitude2 .ensures .0))
 
 pub residue-spec : {M : Type 1} → statement M
-residue-spec = tie.close (tie.spec sub-result size-requires sub-result-2 returns size-requires-2 returns-2)
+residue-spec = tie.close (tie.spec sub-result magnitude-requires sub-result-2 returns magnitude-requires-2 returns-2)
