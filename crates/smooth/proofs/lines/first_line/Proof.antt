@@ -1,4 +1,13 @@
+-- The name, and three numbers behind it.
+use mathlib.Core.Path.{refl, _∙_}
+use mathlib.Core.List.{List, [], _∷_, _++_}
+use Prim.Native.Nat.{ℕ}
+use lib.IntN.{pos}
 use borrow.Author.Needs.{needs}
+use Rattle.meaning.specs.Encoding.{text, decimal}
+use Rattle.meaning.specs.Program.{firstLine}
+use Rattle.encoding.specs.Append.{Appended, Room, append-then, room-first, room-rest}
+use Rattle.smooth.specs.Programs.{firstLine-words}
 use Rattle.smooth.proofs.lines.first_line.Statement.{statement}
 use Rattle.smooth.proofs.lines.first_line.Tie as tie
 use Rattle.smooth.proofs.lines.first_line.Reads as reads
@@ -9,23 +18,55 @@ use Rattle.smooth.proofs.lines.put_word.Reads as put-word-reads
 slice-aggregate-put-text : tie.Need-slice-aggregate-put-text
 slice-aggregate-put-text c = search needs
 
+-- what is put, one stretch more each time
+module _ (number second third : ℕ) {s : List ℕ} {at : ℕ} (room : Room at (firstLine number second third) s) where
+  three : Room at (text "smooth " ++ (decimal (pos number) ++ 32 ∷ []) ++ (decimal (pos second) ++ 32 ∷ [])) s
+  three = room-first _ _ (firstLine-words number second third) room
+
+  two : Room at (text "smooth " ++ (decimal (pos number) ++ 32 ∷ [])) s
+  two = room-first _ _ refl three
+
+  one : Room at (text "smooth ") s
+  one = room-first _ _ refl two
+
 put-text-requires : tie.Need-put-text-requires
-put-text-requires c κs = ?
+unfolding text
+put-text-requires c κs = let start = c .before .before .before in one (start .args .number) (start .args .second) (start .args .third) (start .pre)
 
 put-word-requires : tie.Need-put-word-requires
-put-word-requires c κs = ?
+unfolding text
+put-word-requires c κs =
+    let name = c .before .before .before .put-text in
+    let start = c .before .before .before .before .before .before .before in
+    room-rest _ refl (two (start .args .number) (start .args .second) (start .args .third) (start .pre)) (name .ensures) (name .kept .0)
 
 put-word-requires-2 : tie.Need-put-word-requires-2
-put-word-requires-2 c κs = ?
+unfolding text
+put-word-requires-2 c κs =
+    let word = c .before .before .before .put-word in
+    let name = c .before .before .before .before .before .before .before .put-text in
+    let start = c .before .before .before .before .before .before .before .before .before .before .before in
+    room-rest _ refl (three (start .args .number) (start .args .second) (start .args .third) (start .pre)) (append-then refl (name .ensures) (word .ensures)) (word .kept .0 ∙ name .kept .0)
+
+words-put : (c : tie.After-put-word2) → Appended (c .before .before .before .before .before .before .before .before .before .before .before .before .args .out .now) (c .before .before .before .before .before .before .before .before .before .before .before .before .args .at) (text "smooth " ++ (decimal (pos (c .before .before .before .before .before .before .before .before .before .before .before .before .args .number)) ++ 32 ∷ []) ++ (decimal (pos (c .before .before .before .before .before .before .before .before .before .before .before .before .args .second)) ++ 32 ∷ [])) (c .put-word2 .last .0) (c .put-word2 .result)
+unfolding text
+words-put c = append-then refl (append-then refl (c .before .before .before .before .before .before .before .before .put-text .ensures) (c .before .before .before .before .put-word .ensures)) (c .put-word2 .ensures)
 
 put-word-requires-3 : tie.Need-put-word-requires-3
-put-word-requires-3 c κs = ?
+put-word-requires-3 c κs =
+    let words = c .before .before .before in
+    let start = words .before .before .before .before .before .before .before .before .before .before .before .before in
+    let line = firstLine-words (start .args .number) (start .args .second) (start .args .third) in
+    room-rest _ line (start .pre) (words-put words) (words .put-word2 .kept .0 ∙ words .before .before .before .before .put-word .kept .0 ∙ words .before .before .before .before .before .before .before .before .put-text .kept .0)
 
 same-length : tie.Need-same-length
 same-length c = search needs
 
 returns : tie.Need-returns
-returns c = ?
+returns c =
+    let words = c .before .before .before .before .before .before in
+    let a = words .before .before .before .before .before .before .before .before .before .before .before .before .args in
+    append-then (firstLine-words (a .number) (a .second) (a .third)) (words-put words) (c .before .before .put-word3 .ensures)
 
 pub first-line-spec : {M : Type 1} → statement M
 first-line-spec =
