@@ -8,6 +8,7 @@ ghost use Rattle.meaning.specs.Calls.{smoothSeries};
 ghost use Rattle.meaning.specs.Program as P;
 ghost use Rattle.encoding.specs.Append.{Appended};
 ghost use Rattle.plan.specs.Structs.{stagesOf};
+ghost use Rattle.smooth.specs.Text.{mostText};
 use crate::lines;
 use plan::Plan;
 
@@ -20,7 +21,7 @@ fn smooth(
     work: &mut [i64],
     out: &mut [u8],
 ) -> usize
-    requires { ⌜ (length (now results) ≤ maxSamples) × (65536 ≤ length (now out)) ⌝ }
+    requires { ⌜ (length (now results) ≤ maxSamples) × (mostText ≤ length (now out)) ⌝ }
     ensures { λ r. ⌜ Appended (now (out .entry)) 0 (P.report (divisor (stagesOf plan)) (smoothSeries fold (stagesOf plan) bound (now (samples .entry)) (now (results .entry)) (now (work .entry)))) (now (out .exit)) r ⌝ }
 {
     let answer = series::smooth_series(plan, bound, samples, results, work);
