@@ -2,6 +2,7 @@
 --   Folding      what an index map must be for the laws
 --   HalfSample   the map of document 01 is one
 --   Lists        lists by their elements, and how large those are
+--   Fill         a list written from the front
 --   Kernel       symmetric, never negative, 0 beyond the reach
 --   Convolution  a stage in front, stages one after the other; linear; the kernel's sum
 --   Stages       the numbers of stages one after the other, and of K equal ones
@@ -19,11 +20,13 @@
 --   Places       the first place where a test is true
 --   Tests        tests that fail, and why
 --   Encoding     numbers as bytes and as text
+--   Records      the job record: what is written is read, what is read as done was written
 --   Accepted     a call is done exactly where the bounds hold
 -- A law over an index map φ takes `F : Folding φ`, and where it speaks of reach `C : Nearness φ`: for document 01, half-sample and half-sample-near.
 pub mod Folding
 pub mod HalfSample
 pub mod Lists
+pub mod Fill
 pub mod Kernel
 pub mod Convolution
 pub mod Stages
@@ -41,4 +44,5 @@ pub mod Refusals
 pub mod Places
 pub mod Tests
 pub mod Encoding
+pub mod Records
 pub mod Accepted

@@ -5,7 +5,7 @@ use native.Mathlib.Omega.{arith}
 use lib.ListN.{length, take, replicate, length-set, length-replicate, getD-replicate}
 use lib.IntN.{pos}
 use borrow.Author.Needs.{needs}
-use Rattle.series.specs.Fill.{fill-next, fill-done}
+use Rattle.theory.specs.Fill.{fill-next, fill-done}
 use Rattle.series.proofs.inner.clear.Statement.{statement}
 use Rattle.series.proofs.inner.clear.Tie as tie
 

@@ -6,7 +6,7 @@ use lib.ListN.{length, take, length-set}
 use mir.Syntax.{w32, w64}
 use mir.Facts.{toZ-ofZ}
 use borrow.Author.Needs.{needs, sfits-of}
-use Rattle.series.specs.Fill.{fill-next, fill-done}
+use Rattle.theory.specs.Fill.{fill-next, fill-done}
 use Rattle.series.proofs.inner.load.Statement.{statement}
 use Rattle.series.proofs.inner.load.Tie as tie
 

@@ -12,7 +12,7 @@ use Rattle.meaning.specs.Extension.{fold, ext}
 use Rattle.meaning.specs.Smoothing as S
 use Rattle.theory.specs.Passes.{length-pass}
 use Rattle.theory.specs.Slide.{window}
-use Rattle.series.specs.Fill.{fill-next, fill-done}
+use Rattle.theory.specs.Fill.{fill-next, fill-done}
 use Rattle.series.specs.Turn.{Turn, summable, cell-is, cell-fits, low-next, slide-is, slide-fits}
 use Rattle.series.proofs.inner.pass.Statement.{statement}
 use Rattle.series.proofs.inner.pass.Tie as tie
