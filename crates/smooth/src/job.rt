@@ -1,29 +1,97 @@
-// One job, and its text.
-ghost use Prim.Native.Nat.{_≤_};
+// One job in, its text out.
+ghost use Prim.Native.Nat.{_/_, _≤_};
 ghost use lib.ListN.{length};
 ghost use Rattle.meaning.specs.Limits.{maxSamples};
-ghost use Rattle.meaning.specs.Extension.{fold};
-ghost use Rattle.meaning.specs.Kernel.{divisor};
-ghost use Rattle.meaning.specs.Calls.{smoothSeries};
-ghost use Rattle.meaning.specs.Program as P;
-ghost use Rattle.encoding.specs.Append.{Appended};
+ghost use Rattle.meaning.specs.Program.{program};
 ghost use Rattle.plan.specs.Structs.{stagesOf};
-ghost use Rattle.smooth.specs.Text.{mostText};
+ghost use Rattle.encoding.specs.Append.{Appended};
+ghost use Rattle.smooth.specs.Text.{samplesIn, seriesText, mostText, Lent};
 use crate::lines;
 use plan::Plan;
 
-// Smooths the samples; either the results' lines, or the one line of a refusal.
-fn smooth(
+// A longer input is no job.
+const MOST_BYTES: usize = 4123;
+
+// What the program prints for its input.
+pub(crate) fn report(input: &[u8], out: &mut [u8]) -> usize
+    requires { ⌜ mostText ≤ length (now out) ⌝ }
+    ensures { λ r. ⌜ Appended (now (out .entry)) 0 (program (now (input .entry))) (now (out .exit)) r ⌝ }
+{
+    if input.len() > MOST_BYTES {
+        return lines::first_line(out, 0, 14, 0, 0);
+    }
+    let job = record::read_record(input);
+    if job.number != 0 {
+        return lines::first_line(out, 0, 14, 0, 0);
+    }
+    let plan = Plan::new(
+        job.radius as u64,
+        job.inner as u64,
+        job.edge as u64,
+        job.passes as u64,
+    );
+    let stretch = record::stretch(input, job.start, job.size);
+    smooth(plan, job.bound as u64, stretch, out)
+}
+
+// Smooths the samples of a stretch.
+fn smooth(plan: Plan, bound: u64, stretch: &[u8], out: &mut [u8]) -> usize
+    requires { ⌜ (length (now stretch) / 4 ≤ maxSamples) × (mostText ≤ length (now out)) ⌝ }
+    ensures { λ r. ⌜ Appended (now (out .entry)) 0 (seriesText (stagesOf plan) bound (samplesIn (now (stretch .entry)))) (now (out .exit)) r ⌝ }
+{
+    let mut samples = [0i32; 1024];
+    let mut results = [0i64; 1024];
+    let mut work = [0i64; 1024];
+    smooth_within(
+        plan,
+        bound,
+        stretch,
+        &mut samples,
+        &mut results,
+        &mut work,
+        out,
+    )
+}
+
+// The same, of what is lent as much as there are samples.
+fn smooth_within(
     plan: Plan,
     bound: u64,
-    samples: &[i32],
+    stretch: &[u8],
+    samples: &mut [i32],
     results: &mut [i64],
     work: &mut [i64],
     out: &mut [u8],
 ) -> usize
-    requires { ⌜ (length (now results) ≤ maxSamples) × (mostText ≤ length (now out)) ⌝ }
-    ensures { λ r. ⌜ Appended (now (out .entry)) 0 (P.report (divisor (stagesOf plan)) (smoothSeries fold (stagesOf plan) bound (now (samples .entry)) (now (results .entry)) (now (work .entry)))) (now (out .exit)) r ⌝ }
+    requires { ⌜ (length (now stretch) / 4 ≤ maxSamples) × (maxSamples ≤ length (now samples)) × (maxSamples ≤ length (now results)) × (maxSamples ≤ length (now work)) × (mostText ≤ length (now out)) ⌝ }
+    ensures { λ r. ⌜ Appended (now (out .entry)) 0 (seriesText (stagesOf plan) bound (samplesIn (now (stretch .entry)))) (now (out .exit)) r ⌝ }
 {
+    let n = stretch.len() / 4;
+    smooth_into(
+        plan,
+        bound,
+        stretch,
+        &mut samples[..n],
+        &mut results[..n],
+        &mut work[..n],
+        out,
+    )
+}
+
+// The same, of slices of that length: the results' lines, or the one line of a refusal.
+fn smooth_into(
+    plan: Plan,
+    bound: u64,
+    stretch: &[u8],
+    samples: &mut [i32],
+    results: &mut [i64],
+    work: &mut [i64],
+    out: &mut [u8],
+) -> usize
+    requires { ⌜ Lent (length (now stretch) / 4) (length (now samples)) (length (now results)) (length (now work)) (length (now out)) ⌝ }
+    ensures { λ r. ⌜ Appended (now (out .entry)) 0 (seriesText (stagesOf plan) bound (samplesIn (now (stretch .entry)))) (now (out .exit)) r ⌝ }
+{
+    record::inner::load(stretch, samples);
     let answer = series::smooth_series(plan, bound, samples, results, work);
     if answer.number != 0 {
         return lines::first_line(out, 0, answer.number, answer.position as u64, 0);

@@ -7,13 +7,9 @@ use borrow.Author.Needs.{needs}
 use Rattle.meaning.specs.Encoding.{text, decimal}
 use Rattle.meaning.specs.Program.{firstLine}
 use Rattle.encoding.specs.Append.{Appended, Room, append-then, room-first, room-rest}
-use Rattle.smooth.specs.Programs.{firstLine-words}
+use Rattle.theory.specs.Programs.{firstLine-words}
 use Rattle.smooth.proofs.lines.first_line.Statement.{statement}
 use Rattle.smooth.proofs.lines.first_line.Tie as tie
-use Rattle.smooth.proofs.lines.first_line.Reads as reads
-use Rattle.smooth.proofs.lines.first_line.Lts as lts
-use Rattle.encoding.proofs.inner.put_text.Reads as put-text-reads
-use Rattle.smooth.proofs.lines.put_word.Reads as put-word-reads
 
 slice-aggregate-put-text : tie.Need-slice-aggregate-put-text
 slice-aggregate-put-text c = search needs

@@ -4,14 +4,9 @@ use native.Mathlib.Omega.{arith}
 use borrow.Author.Needs.{needs}
 use mir.Facts.{toZ-ofZ}
 use Rattle.encoding.specs.Append.{append-then, room-first, room-rest}
-use Rattle.smooth.specs.Programs.{line-words}
+use Rattle.theory.specs.Programs.{line-words}
 use Rattle.smooth.proofs.lines.result_line.Statement.{statement}
 use Rattle.smooth.proofs.lines.result_line.Tie as tie
-use Rattle.smooth.proofs.lines.result_line.Reads as reads
-use Rattle.smooth.proofs.lines.result_line.Lts as lts
-use Rattle.encoding.proofs.inner.put_byte.Reads as put-byte-reads
-use Rattle.encoding.proofs.inner.put_whole.Reads as put-whole-reads
-use Rattle.smooth.proofs.lines.put_word.Reads as put-word-reads
 
 put-word-requires : tie.Need-put-word-requires
 put-word-requires c κs =

@@ -10,12 +10,9 @@ use mir.Syntax.{w64}
 use mir.ValLaws.{toZ-ofZ}
 use Rattle.meaning.specs.Program.{resultLines}
 use Rattle.encoding.specs.Append.{Appended, append-none, append-then, room-first, room-rest}
-use Rattle.smooth.specs.Programs.{lines-next, lines-rest}
+use Rattle.theory.specs.Programs.{lines-next, lines-rest}
 use Rattle.smooth.proofs.lines.result_lines.Statement.{statement}
 use Rattle.smooth.proofs.lines.result_lines.Tie as tie
-use Rattle.smooth.proofs.lines.result_lines.Reads as reads
-use Rattle.smooth.proofs.lines.result_lines.Lts as lts
-use Rattle.smooth.proofs.lines.result_line.Reads as result-line-reads
 
 abbrev Inv-loop : tie.InvT-loop
 Inv-loop out₀ at results end₀ i₀ i-end out end i = (i ≤ length results) × (length out ≡ length out₀) × Appended out₀ at (resultLines 0 (take i results)) out end

@@ -1,27 +1,31 @@
 -- What the program prints, line by line.
--- Laws: firstLine-words, line-words (a line, number by number); lines-none, lines-next (one line more), lines-front; length-firstLine, length-resultLines;
--- report-refused, report-done, report-divisor (what `Plan` answers is the divisor), report-lent (what the lent slices held does not matter).
+-- Laws: firstLine-words, line-words (a line by its words, each with the byte that ends it); lines-next (one line more), lines-rest (the others behind them);
+-- length-firstLine, length-resultLines; report-refused, report-done; done-divisor (what a plan answers of itself is the divisor printed),
+-- report-lent (what the lent slices held does not matter); program-long, program-malformed, program-read; program-front (no more than a byte too many is read).
 use mathlib.Core.Path.{_≡_, refl, sym, _∙_, ap}
-use mathlib.Core.Bool.{Bool, true, false, cond}
-use mathlib.Core.List.{List, [], _∷_, _++_, append-assoc, append-nil}
+use mathlib.Core.Bool.{Bool, true, false, cond, or-true}
+use mathlib.Core.List.{List, [], _∷_, _++_, append-assoc}
 use Prim.Native.Nat.{ℕ, suc, _+_, _*_, _≤_, _<_}
 use native.Mathlib.Nat.{le-trans, le-mul-of-pos-right, mul-comm}
-use native.Mathlib.Decide.{ℕ-discrete}
+use native.Mathlib.Decide.{decLt}
 use native.Mathlib.Numerals.{add-one}
 use native.Mathlib.Omega.{arith}
-use lib.Dec.{eqb}
+use lib.Dec.{ltb, eqb}
 use lib.ListN.{length, take, drop, length-append, take-append-drop}
-use lib.Seq.{take-suc, length-take-le}
+use lib.Seq.{take-suc, take-all, length-take-le}
 use lib.IntN.{ℤ, pos}
+use borrow.Author.Tests.{lt-ltb, le-ltb}
+use Rattle.meaning.specs.Limits.{maxJob}
 use Rattle.meaning.specs.Encoding.{text, decimal}
-use Rattle.meaning.specs.Extension.{at, IndexMap}
-use Rattle.meaning.specs.Kernel.{Stage, divisor}
-use Rattle.meaning.specs.Refusals.{Answer, ifDone, firstOf, seriesOf, planDivisor}
-use Rattle.meaning.specs.Calls.{Smoothed, smoothRows, smoothed, smoothSeries}
-use Rattle.meaning.specs.Program.{firstLine, resultLines, report}
+use Rattle.meaning.specs.Extension.{at, IndexMap, fold}
+use Rattle.meaning.specs.Kernel.{Stage, plan, divisor}
+use Rattle.meaning.specs.Refusals.{Answer, ifDone, planDivisor, zeros}
+use Rattle.meaning.specs.Calls.{Smoothed, smoothed, smoothSeries}
+use Rattle.meaning.specs.Record.{samplesOf, readRecord}
+use Rattle.meaning.specs.Program.{firstLine, resultLines, report, program}
 use Rattle.theory.specs.Encoding.{length-decimal}
 use Rattle.theory.specs.Refusals.{ifDone-done, ifDone-refused}
 use Rattle.theory.specs.Accepted.{series-allowed, accepted-divisor}
 
 -- ---- the first line
 pub firstLine-words : (a b c : ℕ) → firstLine a b c ≡ text "smooth " ++ (decimal (pos a) ++ 32 ∷ []) ++ (decimal (pos b) ++ 32 ∷ []) ++ (decimal (pos c) ++ 10 ∷ [])
@@ -82,3 +86,29 @@ module _ (φ : IndexMap) (ss : List Stage) (M : ℕ) (f : List ℤ) where
   pub report-lent : (D : ℕ) (r w s v : List ℤ) → length r ≡ length s → length w ≡ length v → report D (smoothSeries φ ss M f r w) ≡ report D (smoothSeries φ ss M f s v)
   unfolding smoothed report
   report-lent D r w s v e g = rw (e, g) (inside _ (λ zs. firstLine 0 D (length zs) ++ resultLines 0 zs) _ r s _)
+
+-- ---- the program
+module _ (s : List ℕ) where
+  pub program-long : maxJob < length s → program s ≡ firstLine 14 0 0
+  unfolding program
+  program-long h = rw (lt-ltb maxJob (length s) h) refl
+
+  pub program-malformed : (readRecord s .answer .number ≡ 0 → ⊥) → program s ≡ firstLine 14 0 0
+  unfolding program
+  program-malformed h = rw (lt-ltb 0 (readRecord s .answer .number) (omega (arith, h)), or-true (ltb maxJob (length s))) refl
+
+  pub program-read : length s ≤ maxJob → readRecord s .answer .number ≡ 0 →
+      let j = readRecord s in
+      let f = samplesOf j s in
+      let ss = plan (j .radius) (j .inner) (j .edge) (j .passes) in
+      program s ≡ report (divisor ss) (smoothSeries fold ss (j .bound) f (zeros f) (zeros f))
+  unfolding program
+  program-read h z = rw (le-ltb maxJob (length s) h, le-ltb 0 (readRecord s .answer .number) (omega arith)) refl
+
+-- so of a longer input the rest may be left unread
+pub program-front : (s : List ℕ) → program (take (suc maxJob) s) ≡ program s
+program-front s = go (decLt maxJob (length s))
+  where
+    go : Dec (maxJob < length s) → program (take (suc maxJob) s) ≡ program s
+    go (yes h) = program-long (take (suc maxJob) s) (omega (arith, length-take-le (suc maxJob) s (omega arith))) ∙ sym (program-long s h)
+    go (no h) = ap program (take-all (suc maxJob) s (omega arith))
