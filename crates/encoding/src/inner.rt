@@ -56,7 +56,7 @@ pub fn unsigned(x: i32) -> u32
 }
 
 pub fn put_byte(out: &mut [u8], at: usize, byte: u8) -> usize
-    requires { ⌜ at < length (now out) ⌝ }
+    requires { ⌜ Room at (byte ∷ []) (now out) ⌝ }
     ensures { λ r. ⌜ Appended (now (out .entry)) at (byte ∷ []) (now (out .exit)) r ⌝ }
 {
     out[at] = byte;
@@ -65,7 +65,7 @@ pub fn put_byte(out: &mut [u8], at: usize, byte: u8) -> usize
 
 // The n low bytes of x.
 pub fn put_number(out: &mut [u8], at: usize, n: usize, x: u64) -> usize
-    requires { ⌜ at + n ≤ length (now out) ⌝ }
+    requires { ⌜ Room at (bytes n x) (now out) ⌝ }
     ensures { λ r. ⌜ Appended (now (out .entry)) at (bytes n x) (now (out .exit)) r ⌝ }
 {
     if n == 0 {

@@ -1,7 +1,7 @@
 -- Numbers as bytes and as text.
 --   Bytes s   every element of s is below 256; its field `byte i` holds past the end too, where s reads as 0
 -- Laws: bytes-take, bytes-drop (of a part);
--- length-bytes, bytes-bytes, bytes-none, bytes-last (the last byte apart); number-last, number-more, number-below;
+-- length-bytes, bytes-bytes, bytes-none, bytes-last (the last byte apart); number-last, number-more, number-below, number-part (of a stretch);
 -- number-bytes, bytes-number (they undo each other);
 -- decimal-digit, decimal-next (the last digit apart), decimal-negative; length-decimal.
 use mathlib.Core.Path.{_≡_, refl, sym, _∙_, ap, ap₂}
@@ -9,7 +9,7 @@ use mathlib.Core.Bool.{Bool, true, false, cond}
 use mathlib.Core.List.{List, [], _∷_, _++_}
 use Prim.Native.Char.{code}
 use Prim.Native.Nat.{ℕ, zero, suc, _+_, _-_, _*_, _/_, _%_, _^_, _≤_, _<_}
-use native.Mathlib.Nat.{pow-suc, mul-assoc, mod-lt, mod-mod, div-add-mod', div-div-eq-div-mul, div-lt-iff-lt-mul, mul-comm, pow-succ', one-le-pow, mod-one, div-one, div-eq-of-lt, mul-add-mod-self-right, mul-add-div-right, mod-eq-of-lt}
+use native.Mathlib.Nat.{pow-suc, pow-le-pow-right, mul-assoc, mod-lt, mod-mod, div-add-mod', div-div-eq-div-mul, div-lt-iff-lt-mul, mul-comm, pow-succ', one-le-pow, mod-one, div-one, div-eq-of-lt, mul-add-mod-self-right, mul-add-div-right, mod-eq-of-lt}
 use native.Mathlib.Decide.{decLt}
 use native.Mathlib.Numerals.{add-one}
 use native.Mathlib.Omega.{arith}
@@ -83,6 +83,11 @@ pub number-below : (bs : List ℕ) → Bytes bs → number bs < 256 ^ length bs
 unfolding number
 number-below [] h = omega arith
 number-below (b ∷ bs) h = rw (pow-suc, mul-comm (256 ^ length bs) 256) (digits-lt (h .byte 0) (number-below bs (bytes-tail h)))
+
+pub number-part : (n at : ℕ) {s : List ℕ} → Bytes s → number (take n (drop at s)) < 256 ^ n
+number-part n at {s} h =
+    let size : length (take n (drop at s)) ≤ n = omega (arith, length-take n (drop at s)) in
+    omega (arith, number-below (take n (drop at s)) (bytes-take n (bytes-drop at h)), pow-le-pow-right {n = 256} (omega arith) size)
 
 number-low : (n x : ℕ) → number (bytes n x) ≡ x % 256 ^ n
 unfolding bytes number

@@ -1,12 +1,11 @@
 -- By induction on the number: a digit stands behind those of a tenth of it.
-use mathlib.Core.Path.{_≡_, ap}
+use mathlib.Core.Path.{_≡_}
 use mathlib.Core.List.{[], _∷_, _++_}
 use native.Mathlib.Omega.{arith}
 use borrow.Author.Needs.{needs}
 use Rattle.theory.specs.Encoding.{decimal-digit, decimal-next}
 use Rattle.encoding.specs.Append.{append-then, room-first, room-rest}
 use Prim.Native.Nat.{ℕ, _+_, _/_, _%_, _≤_, _<_}
-use lib.ListN.{length}
 use lib.IntN.{pos}
 use mir.Syntax.{w64}
 use mir.Val.{Fits}
@@ -36,7 +35,7 @@ add-put-byte : (t : ℕ) → lts.Need-add-put-byte (put-byte.Asked, put-byte.Lea
 add-put-byte t c = search needs
 
 put-byte-requires : (t : ℕ) → lts.Need-put-byte-requires (put-byte.Asked, put-byte.Learnt, below t, put-decimal.Post) (at t) put-decimal.Post
-put-byte-requires t c κs = omega (arith, ap length (decimal-digit (c .before .before .before .args .x) (omega arith)), c .before .before .before .pre .1 .room)
+put-byte-requires t c κs = rw (← decimal-digit (c .before .before .before .args .x) (omega arith)) (c .before .before .before .pre .1)
 
 same-length : (t : ℕ) → lts.Need-same-length (put-byte.Asked, put-byte.Learnt, below t, put-decimal.Post) (at t) put-decimal.Post
 same-length t c = search needs
@@ -62,7 +61,7 @@ put-byte-requires-2 : (t : ℕ) → lts.Need-put-byte-requires-2 (put-byte.Asked
 put-byte-requires-2 t c κs =
     let start = c .before .before .before .before .before .before .before in
     let put = c .before .before .before .put-decimal in
-    omega (arith, room-rest _ (tenth (start .args .x) (omega arith) (start .fits .x)) (start .pre .1) (put .ensures) (put .kept .0) .room)
+    room-rest _ (tenth (start .args .x) (omega arith) (start .fits .x)) (start .pre .1) (put .ensures) (put .kept .0)
 
 same-length-2 : (t : ℕ) → lts.Need-same-length-2 (put-byte.Asked, put-byte.Learnt, below t, put-decimal.Post) (at t) put-decimal.Post
 same-length-2 t c = search needs

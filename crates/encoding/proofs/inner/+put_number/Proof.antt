@@ -1,9 +1,9 @@
 -- By induction on n: the lowest byte stands behind those of a 256th.
 use native.Mathlib.Omega.{arith}
 use borrow.Author.Needs.{needs}
-use Rattle.theory.specs.Encoding.{length-bytes, bytes-none, bytes-last}
-use Rattle.encoding.specs.Append.{append-none, append-then}
-use Prim.Native.Nat.{ℕ, _-_, _/_, _<_}
+use Rattle.theory.specs.Encoding.{bytes-none, bytes-last}
+use Rattle.encoding.specs.Append.{append-none, append-then, room-first, room-rest}
+use Prim.Native.Nat.{ℕ, _<_}
 use borrow.Fn.Kinds.{In}
 use borrow.Fn.PlainCycle.{Measures, is, falls, and}
 use Rattle.encoding.proofs.inner.put_number.Reads as put-number
@@ -29,16 +29,18 @@ sub-put-number : (t : ℕ) → lts.Need-sub-put-number (below t, put-number.Post
 sub-put-number t c = search needs
 
 put-number-requires : (t : ℕ) → lts.Need-put-number-requires (below t, put-number.Post, put-byte.Asked, put-byte.Learnt) (at t) put-number.Post
-put-number-requires t c κs = (omega arith, omega arith)
+put-number-requires t c κs =
+    let start = c .before .before .before in
+    (omega arith, room-first _ _ (bytes-last (start .args .n) (start .args .x) (omega arith)) (start .pre .1))
 
 cast-put-byte : (t : ℕ) → lts.Need-cast-put-byte (below t, put-number.Post, put-byte.Asked, put-byte.Learnt) (at t) put-number.Post
 cast-put-byte t c = search needs
 
 put-byte-requires : (t : ℕ) → lts.Need-put-byte-requires (below t, put-number.Post, put-byte.Asked, put-byte.Learnt) (at t) put-number.Post
 put-byte-requires t c κs =
-    let a = c .before .before .before .before .before .before .before .args in
+    let start = c .before .before .before .before .before .before .before in
     let put = c .before .before .before .put-number in
-    omega (arith, put .ensures .behind, length-bytes (a .n - 1) (a .x / 256), put .kept .0)
+    room-rest _ (bytes-last (start .args .n) (start .args .x) (omega arith)) (start .pre .1) (put .ensures) (put .kept .0)
 
 same-length : (t : ℕ) → lts.Need-same-length (below t, put-number.Post, put-byte.Asked, put-byte.Learnt) (at t) put-number.Post
 same-length t c = search needs

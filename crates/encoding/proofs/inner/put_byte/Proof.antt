@@ -1,14 +1,15 @@
 -- One byte more.
 use Rattle.encoding.specs.Append.{append-byte}
+use native.Mathlib.Omega.{arith}
 use borrow.Author.Needs.{needs}
 use Rattle.encoding.proofs.inner.put_byte.Statement.{statement}
 use Rattle.encoding.proofs.inner.put_byte.Tie as tie
 
 slice-write-out : tie.Need-slice-write-out
-slice-write-out c = search needs
+slice-write-out c = omega (arith, c .pre .room)
 
 add-result : tie.Need-add-result
-add-result c = search needs
+add-result c = omega (arith, c .pre .room)
 
 same-length : tie.Need-same-length
 same-length c = search needs

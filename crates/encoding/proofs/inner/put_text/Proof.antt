@@ -30,7 +30,7 @@ put-byte-requires : tie.Need-put-byte-requires Inv-loop μ-loop
 put-byte-requires c κs =
     let a = c .before .before .before .before .before .before in
     let loop = c .before .before .before .loop in
-    omega (arith, loop .inv .2 .behind, length-take-le (loop .i) (a .args .text .now) (omega arith), a .pre .room)
+    record { room = omega (arith, loop .inv .2 .behind, length-take-le (loop .i) (a .args .text .now) (omega arith), a .pre .room) }
 
 add-i : tie.Need-add-i Inv-loop μ-loop
 add-i c = search needs

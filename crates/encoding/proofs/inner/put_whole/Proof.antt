@@ -11,7 +11,7 @@ use lib.Signed.{mag, ltZ}
 use mir.Facts.{toZ-ofZ}
 use Rattle.meaning.specs.Encoding.{decimal}
 use Rattle.theory.specs.Encoding.{decimal-negative}
-use Rattle.encoding.specs.Append.{Room, append-then, room-first, room-rest}
+use Rattle.encoding.specs.Append.{append-then, room-first, room-rest}
 use borrow.Author.Needs.{needs}
 use Rattle.encoding.proofs.inner.put_whole.Statement.{statement}
 use Rattle.encoding.proofs.inner.put_whole.Tie as tie
@@ -27,8 +27,7 @@ plus (negsuc m) t e = absurd (true≢false t)
 put-byte-requires : tie.Need-put-byte-requires
 put-byte-requires c κs =
     let start = c .before .before .before in
-    let sign : Room (start .args .at) (45 ∷ []) (start .args .out .now) = room-first _ _ (minus (start .args .z) (rw (toZ-ofZ (start .fits .z)) at (c .before .if1 .taken)) refl) (start .pre) in
-    omega (arith, sign .room)
+    room-first _ _ (minus (start .args .z) (rw (toZ-ofZ (start .fits .z)) at (c .before .if1 .taken)) refl) (start .pre)
 
 magnitude-requires : tie.Need-magnitude-requires
 magnitude-requires c κs = search needs
