@@ -6,7 +6,7 @@ use lib.IntN.{pos}
 use borrow.Author.Needs.{needs}
 use Rattle.meaning.specs.Encoding.{text, decimal}
 use Rattle.meaning.specs.Program.{firstLine}
-use Rattle.encoding.specs.Append.{Appended, Room, append-then, room-first, room-rest}
+use Rattle.encoding.specs.Append.{Room, append-then, room-first, room-rest}
 use Rattle.theory.specs.Programs.{firstLine-words}
 use Rattle.smooth.proofs.lines.first_line.Statement.{statement}
 use Rattle.smooth.proofs.lines.first_line.Tie as tie
@@ -44,25 +44,26 @@ put-word-requires-2 c κs =
     let start = c .before .before .before .before .before .before .before .before .before .before .before in
     room-rest _ refl (three (start .args .number) (start .args .second) (start .args .third) (start .pre)) (append-then refl (name .ensures) (word .ensures)) (word .kept .0 ∙ name .kept .0)
 
-words-put : (c : tie.After-put-word2) → Appended (c .before .before .before .before .before .before .before .before .before .before .before .before .args .out .now) (c .before .before .before .before .before .before .before .before .before .before .before .before .args .at) (text "smooth " ++ (decimal (pos (c .before .before .before .before .before .before .before .before .before .before .before .before .args .number)) ++ 32 ∷ []) ++ (decimal (pos (c .before .before .before .before .before .before .before .before .before .before .before .before .args .second)) ++ 32 ∷ [])) (c .put-word2 .last .0) (c .put-word2 .result)
-unfolding text
-words-put c = append-then refl (append-then refl (c .before .before .before .before .before .before .before .before .put-text .ensures) (c .before .before .before .before .put-word .ensures)) (c .put-word2 .ensures)
-
 put-word-requires-3 : tie.Need-put-word-requires-3
+unfolding text
 put-word-requires-3 c κs =
-    let words = c .before .before .before in
-    let start = words .before .before .before .before .before .before .before .before .before .before .before .before in
-    let line = firstLine-words (start .args .number) (start .args .second) (start .args .third) in
-    room-rest _ line (start .pre) (words-put words) (words .put-word2 .kept .0 ∙ words .before .before .before .before .put-word .kept .0 ∙ words .before .before .before .before .before .before .before .before .put-text .kept .0)
+    let words = c .before .before .before .put-word2 in
+    let word = c .before .before .before .before .before .before .before .put-word in
+    let name = c .before .before .before .before .before .before .before .before .before .before .before .put-text in
+    let start = c .before .before .before .before .before .before .before .before .before .before .before .before .before .before .before in
+    room-rest _ (firstLine-words (start .args .number) (start .args .second) (start .args .third)) (start .pre) (append-then refl (append-then refl (name .ensures) (word .ensures)) (words .ensures)) (words .kept .0 ∙ word .kept .0 ∙ name .kept .0)
 
 same-length : tie.Need-same-length
 same-length c = search needs
 
 returns : tie.Need-returns
+unfolding text
 returns c =
-    let words = c .before .before .before .before .before .before in
-    let a = words .before .before .before .before .before .before .before .before .before .before .before .before .args in
-    append-then (firstLine-words (a .number) (a .second) (a .third)) (words-put words) (c .before .before .put-word3 .ensures)
+    let words = c .before .before .before .before .before .before .put-word2 in
+    let word = c .before .before .before .before .before .before .before .before .before .before .put-word in
+    let name = c .before .before .before .before .before .before .before .before .before .before .before .before .before .before .put-text in
+    let a = c .before .before .before .before .before .before .before .before .before .before .before .before .before .before .before .before .before .before .args in
+    append-then (firstLine-words (a .number) (a .second) (a .third)) (append-then refl (append-then refl (name .ensures) (word .ensures)) (words .ensures)) (c .before .before .put-word3 .ensures)
 
 pub first-line-spec : {M : Type 1} → statement M
 first-line-spec =

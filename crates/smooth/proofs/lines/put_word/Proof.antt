@@ -1,6 +1,5 @@
 -- The digits, and one byte behind them.
 use mathlib.Core.Path.{refl}
-use native.Mathlib.Omega.{arith}
 use borrow.Author.Needs.{needs}
 use Rattle.encoding.specs.Append.{append-then, room-first, room-rest}
 use Rattle.smooth.proofs.lines.put_word.Statement.{statement}
@@ -12,7 +11,7 @@ put-decimal-requires c κs = room-first _ _ refl (c .before .before .pre)
 put-byte-requires : tie.Need-put-byte-requires
 put-byte-requires c κs =
     let put = c .before .before .before .put-decimal in
-    omega (arith, room-rest _ refl (c .before .before .before .before .before .before .pre) (put .ensures) (put .kept .0) .room)
+    room-rest _ refl (c .before .before .before .before .before .before .pre) (put .ensures) (put .kept .0)
 
 same-length : tie.Need-same-length
 same-length c = search needs

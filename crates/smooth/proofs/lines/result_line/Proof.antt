@@ -1,6 +1,5 @@
 -- Index and result, each with the byte that ends it.
-use mathlib.Core.Path.{refl}
-use native.Mathlib.Omega.{arith}
+use mathlib.Core.Path.{refl, _∙_}
 use borrow.Author.Needs.{needs}
 use mir.Facts.{toZ-ofZ}
 use Rattle.encoding.specs.Append.{append-then, room-first, room-rest}
@@ -24,7 +23,7 @@ put-byte-requires c κs =
     let put = c .before .before .before in
     let start = put .before .before .before .before .before .before .before in
     let word = put .before .before .before .before in
-    omega (arith, room-rest _ (line-words (start .args .index) (start .args .result)) (start .pre) (append-then refl (word .put-word .ensures) (rw (toZ-ofZ (start .fits .result)) at (put .put-whole .ensures))) (omega (arith, word .put-word .kept .0, put .put-whole .kept .0)) .room)
+    room-rest _ (line-words (start .args .index) (start .args .result)) (start .pre) (append-then refl (word .put-word .ensures) (rw (toZ-ofZ (start .fits .result)) at (put .put-whole .ensures))) (put .put-whole .kept .0 ∙ word .put-word .kept .0)
 
 same-length : tie.Need-same-length
 same-length c = search needs
