@@ -4,7 +4,7 @@ import { recordLength, writeRecord } from './record.mjs';
 
 const MOST_I32 = 2 ** 31 - 1;
 
-function recordOf([radius, inner, edge, passes, bound], samples) {
+export function recordOf([radius, inner, edge, passes, bound], samples) {
   const record = new Uint8Array(recordLength(samples.length));
   return Array.from(writeRecord({ radius, inner, edge, passes, bound, samples, record }).record);
 }
@@ -15,7 +15,7 @@ function readCase(note, record) {
   return { note, args: { record } };
 }
 
-const JOB = recordOf([1, 2, 1, 1, 8], [8, 0, 0]);
+export const JOB = recordOf([1, 2, 1, 1, 8], [8, 0, 0]);
 const SMALL = recordOf([0x0102, 3, 4, 5, 0x06070809], [-2]);
 
 // The fields of the small record, to be put together wrongly.
@@ -31,7 +31,7 @@ function samplesField(length, bytes) {
   return [6, Math.floor(length / 256), length % 256, ...filled(bytes, 1)];
 }
 
-function changed(record, at, change) {
+export function changed(record, at, change) {
   return record.map((byte, n) => (n === at ? change(byte) : byte));
 }
 

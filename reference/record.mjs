@@ -3,7 +3,7 @@
 import { divisorOf } from './smoothing.mjs';
 import { smoothSeries } from './calls.mjs';
 
-const NUMBER_FIELDS = [
+export const NUMBER_FIELDS = [
   { name: 'radius', tag: 1, bytes: 2 },
   { name: 'inner', tag: 2, bytes: 1 },
   { name: 'edge', tag: 3, bytes: 1 },
@@ -13,7 +13,7 @@ const NUMBER_FIELDS = [
 const SAMPLES_TAG = 6;
 const HEAD_BYTES = 3;
 const SAMPLE_BYTES = 4;
-const MOST_SAMPLES = 1_024;
+export const MOST_SAMPLES = 1_024;
 const MOST_BYTES = 4_123;
 
 const MALFORMED = {

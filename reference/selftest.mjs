@@ -5,6 +5,7 @@ import { testSmoothing } from './test-smoothing.mjs';
 import { testValues } from './test-values.mjs';
 import { testFormats } from './test-formats.mjs';
 import { testCases } from './test-cases.mjs';
+import { testJobs } from './test-jobs.mjs';
 import { tell } from './testing.mjs';
 
 testExamples();
@@ -12,4 +13,5 @@ testSmoothing();
 testValues();
 testFormats();
 testCases();
+testJobs();
 tell();

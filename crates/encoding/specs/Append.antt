@@ -3,9 +3,9 @@
 --   Room at xs s                 s has room for xs from at on
 -- Laws: append-none, append-byte, append-then (one stretch behind the other), append-all (where nothing stands behind);
 -- room-first, room-rest (of what is put as two stretches).
-use mathlib.Core.Path.{_≡_, refl, sym, _∙_, ap}
+use mathlib.Core.Path.{_≡_, sym, _∙_, ap}
 use mathlib.Core.List.{List, [], _∷_, _++_, append-assoc, append-nil}
-use Prim.Native.Nat.{ℕ, suc, _+_, _≤_, _<_}
+use Prim.Native.Nat.{ℕ, _+_, _≤_, _<_}
 use native.Mathlib.Numerals.{add-one}
 use native.Mathlib.Omega.{arith}
 use lib.ListN.{length, take, set, length-append}

@@ -11,7 +11,7 @@
 --   begins t n s      s begins with a field of tag t and n bytes
 --   reading t n s k   k, given the number in that field and what stands behind it; else 14
 --   readRecord        the reader's outcome
---   writeRecord       the writer's outcome, a Written: the answer, and the lent slice afterwards
+--   writeRecord       the writer's outcome, a Written: the answer, and the lent slice afterwards; its rows are writeRows
 use Prim.Native.Nat.{ℕ, _+_, _-_, _*_, _/_, _%_, _^_, _≤_, _<_}
 use mathlib.Core.Bool.{Bool, cond, not, _&&_}
 use mathlib.Core.List.{List, [], _∷_, _++_}
@@ -24,7 +24,7 @@ use Rattle.meaning.specs.Limits.{least, maxSamples}
 use Rattle.meaning.specs.Encoding.{bytes, number}
 use Rattle.meaning.specs.Extension.{at}
 use Rattle.meaning.specs.Smoothing.{listOf}
-use Rattle.meaning.specs.Refusals.{Answer, _when_, firstOf, outside, differs, ifDone}
+use Rattle.meaning.specs.Refusals.{Answer, Row, _when_, firstOf, outside, differs, ifDone}
 
 -- "one-byte tag, two-byte length, value"
 unfoldable pub field : ℕ → List ℕ → List ℕ
@@ -98,8 +98,11 @@ pub record Written : Type 0 where
   pub slice : List ℕ
 
 -- "refuses with 7 for a sample count it cannot hold, with 8 for a slice not of the exact record length"
+abbrev pub writeRows : ℕ → ℕ → ℕ → List Row
+writeRows N room asked = (7 when outside least maxSamples N) ∷ (8 when differs room asked) ∷ []
+
 unfoldable pub writeRecord : ℕ → ℕ → ℕ → ℕ → ℕ → List ℤ → List ℕ → Written
 writeRecord r b a K M f old =
     let new = recordOf r b a K M f in
-    let answer = firstOf ((7 when outside least maxSamples (length f)) ∷ (8 when differs (length old) (length new)) ∷ []) in
+    let answer = firstOf (writeRows (length f) (length old) (length new)) in
     record { answer = answer; slice = ifDone answer new old }

@@ -9,7 +9,7 @@ use mathlib.Core.Bool.{Bool, true, false, cond}
 use mathlib.Core.List.{List, [], _∷_, _++_}
 use Prim.Native.Char.{code}
 use Prim.Native.Nat.{ℕ, zero, suc, _+_, _-_, _*_, _/_, _%_, _^_, _≤_, _<_}
-use native.Mathlib.Nat.{pow-suc, pow-le-pow-right, mul-assoc, mod-lt, mod-mod, div-add-mod', div-div-eq-div-mul, div-lt-iff-lt-mul, mul-comm, pow-succ', one-le-pow, mod-one, div-one, div-eq-of-lt, mul-add-mod-self-right, mul-add-div-right, mod-eq-of-lt}
+use native.Mathlib.Nat.{pow-suc, pow-le-pow-right, mul-assoc, mod-lt, div-div-eq-div-mul, div-lt-iff-lt-mul, mul-comm, pow-succ', one-le-pow, mod-one, div-one, mul-add-mod-self-right, mul-add-div-right, mod-eq-of-lt}
 use native.Mathlib.Decide.{decLt}
 use native.Mathlib.Numerals.{add-one}
 use native.Mathlib.Omega.{arith}
