@@ -12,17 +12,21 @@ use plan::Plan;
 // A longer input is no job.
 const MOST_BYTES: usize = 4123;
 
+const MOST_SAMPLES: usize = record::Job::MAX_SAMPLES as usize;
+
+const NOT_WELL_FORMED: u64 = 14;
+
 // What the program prints for its input.
 pub(crate) fn report(input: &[u8], out: &mut [u8]) -> usize
     requires { ⌜ mostText ≤ length (now out) ⌝ }
     ensures { λ r. ⌜ Appended (now (out .entry)) 0 (program (now (input .entry))) (now (out .exit)) r ⌝ }
 {
     if input.len() > MOST_BYTES {
-        return lines::first_line(out, 0, 14, 0, 0);
+        return lines::first_line(out, 0, NOT_WELL_FORMED, 0, 0);
     }
     let job = record::read_record(input);
     if job.number != 0 {
-        return lines::first_line(out, 0, 14, 0, 0);
+        return lines::first_line(out, 0, NOT_WELL_FORMED, 0, 0);
     }
     let plan = Plan::new(
         job.radius as u64,
@@ -39,9 +43,9 @@ fn smooth(plan: Plan, bound: u64, stretch: &[u8], out: &mut [u8]) -> usize
     requires { ⌜ (length (now stretch) / 4 ≤ maxSamples) × (mostText ≤ length (now out)) ⌝ }
     ensures { λ r. ⌜ Appended (now (out .entry)) 0 (seriesText (stagesOf plan) bound (samplesIn (now (stretch .entry)))) (now (out .exit)) r ⌝ }
 {
-    let mut samples = [0i32; 1024];
-    let mut results = [0i64; 1024];
-    let mut work = [0i64; 1024];
+    let mut samples = [0i32; MOST_SAMPLES];
+    let mut results = [0i64; MOST_SAMPLES];
+    let mut work = [0i64; MOST_SAMPLES];
     smooth_within(
         plan,
         bound,
@@ -96,6 +100,8 @@ fn smooth_into(
     if answer.number != 0 {
         return lines::first_line(out, 0, answer.number, answer.position as u64, 0);
     }
-    let end = lines::first_line(out, 0, 0, plan.divisor(), results.len() as u64);
+    let divisor = plan.divisor();
+    let count = results.len() as u64;
+    let end = lines::first_line(out, 0, 0, divisor, count);
     lines::result_lines(out, end, results)
 }

@@ -26,8 +26,9 @@ same-length-2 c = search needs
 
 returns-2 : tie.Need-returns-2
 returns-2 c =
-    let read = c .before .before .before .before .before .before .read-record .ensures in
-    rw (program-malformed (c .before .before .before .before .before .before .before .before .before .before .args .input .now) (rw (← read) (c .before .before .before .before .if2 .taken))) (c .before .before .first-line2 .ensures)
+    let judged = c .before .before .before .before in
+    let read = judged .before .before in
+    rw (program-malformed (read .before .before .before .before .args .input .now) (rw (← (read .read-record .ensures)) (judged .if2 .taken))) (c .before .before .first-line2 .ensures)
 
 cast-new : tie.Need-cast-new
 cast-new c = search needs
@@ -52,16 +53,23 @@ cast-smooth c = search needs
 
 smooth-requires : tie.Need-smooth-requires
 smooth-requires c κs =
-    let start = c .before .before .before .before .before .before .before .before .before .before .before .before .before .before in
-    (few-samples (start .args .input .now) _ (c .before .before .before .before .before .before .before .before .before .before .read-record .ensures) (c .before .before .before .before .before .before .before .before .if2 .left) (c .before .before .stretch .ensures), start .pre)
+    let stretched = c .before .before in
+    let judged = stretched .before .before .before .before .before .before in
+    let read = judged .before .before in
+    let start = read .before .before .before .before in
+    (few-samples (start .args .input .now) _ (read .read-record .ensures) (judged .if2 .left) (stretched .stretch .ensures), start .pre)
 
 same-length-3 : tie.Need-same-length-3
 same-length-3 c = search needs
 
 returns-3 : tie.Need-returns-3
 returns-3 c =
-    let a = c .before .before .before .before .before .before .before .before .before .before .before .before .before .before .before .before .before .args in
-    rw (job-text (a .input .now) _ (c .before .before .before .before .before .before .before .before .before .before .before .before .before .read-record .ensures) (c .before .before .before .before .before .before .before .before .before .before .before .if2 .left) (c .before .before .before .before .before .stretch .ensures) (c .before .before .before .before .before .before .new .ensures) (omega (arith, c .before .before .before .before .before .before .before .before .before .before .before .before .before .before .if1 .left))) (c .before .before .smooth .ensures)
+    let stretched = c .before .before .before .before .before in
+    let planned = stretched .before in
+    let judged = planned .before .before .before .before .before in
+    let read = judged .before .before in
+    let short = read .before in
+    rw (job-text (short .before .before .before .args .input .now) _ (read .read-record .ensures) (judged .if2 .left) (stretched .stretch .ensures) (planned .new .ensures) (omega (arith, short .if1 .left))) (c .before .before .smooth .ensures)
 
 pub report-spec : {M : Type 1} → statement M
 report-spec =

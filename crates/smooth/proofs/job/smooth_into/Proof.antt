@@ -1,4 +1,4 @@
--- The lines are those of the outcome, and there is room for the longest text.
+-- What was loaded is smoothed, the lines are those of the outcome, and there is room for the longest text.
 use native.Mathlib.Omega.{arith}
 use borrow.Author.Needs.{needs}
 use Rattle.plan.specs.Structs.{stagesOf}
@@ -30,10 +30,12 @@ same-length-4 c = search needs
 
 returns : tie.Need-returns
 returns c =
-    let call = c .before .before .before .before .before .before .before .before in
-    let start = call .before .before .before .before .before .before .before .before .before in
+    let judged = c .before .before .before .before in
+    let call = judged .before .before .before .before in
+    let load = call .before .before .before .before .before in
+    let start = load .before .before .before .before in
     let a = start .args in
-    rw (refused-text (stagesOf (a .plan)) (a .bound) (a .stretch .now) _ (a .results .now) (a .work .now) (call .before .before .before .before .before .load .ensures) (start .pre) (call .smooth-series .ensures) (c .before .before .before .before .if1 .taken)) (c .before .before .first-line .ensures)
+    rw (refused-text (stagesOf (a .plan)) (a .bound) (a .stretch .now) _ (a .results .now) (a .work .now) (load .load .ensures) (start .pre) (call .smooth-series .ensures) (judged .if1 .taken)) (c .before .before .first-line .ensures)
 
 divisor-requires : tie.Need-divisor-requires
 divisor-requires c κs = search needs
@@ -60,10 +62,15 @@ same-length-8 c = search needs
 
 returns-2 : tie.Need-returns-2
 returns-2 c =
-    let call = c .before .before .before .before .before .before .before .before .before .before .before .before .before .before in
-    let start = call .before .before .before .before .before .before .before .before .before in
+    let first = c .before .before .before .before .before .before .before in
+    let plan = first .before .before in
+    let judged = plan .before in
+    let call = judged .before .before .before .before in
+    let load = call .before .before .before .before .before in
+    let start = load .before .before .before .before in
     let a = start .args in
-    append-then (done-text (stagesOf (a .plan)) (a .bound) (a .stretch .now) _ (a .results .now) (a .work .now) (call .before .before .before .before .before .load .ensures) (start .pre) (call .smooth-series .ensures) (c .before .before .before .before .before .before .before .before .before .before .if1 .left) (c .before .before .before .before .before .before .before .before .divisor .ensures)) (c .before .before .before .before .before .before .before .first-line2 .ensures) (c .before .before .result-lines .ensures)
+    let text = done-text (stagesOf (a .plan)) (a .bound) (a .stretch .now) _ (a .results .now) (a .work .now) (load .load .ensures) (start .pre) (call .smooth-series .ensures) (judged .if1 .left) (plan .divisor .ensures) in
+    append-then text (first .first-line2 .ensures) (c .before .before .result-lines .ensures)
 
 pub smooth-into-spec : {M : Type 1} → statement M
 smooth-into-spec =
