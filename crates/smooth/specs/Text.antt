@@ -6,7 +6,7 @@
 -- Laws: first-room, lines-room (there is room), text-counts; refused-text, done-text (the lines after the call); few-samples, job-text (what was read).
 use mathlib.Core.Path.{_≡_, sym, _∙_, ap}
 use mathlib.Core.List.{List, _++_}
-use Prim.Native.Nat.{ℕ, _/_, _≤_}
+use Prim.Native.Nat.{ℕ, _+_, _*_, _/_, _≤_}
 use native.Mathlib.Omega.{arith}
 use lib.ListN.{length, take, drop, length-take, length-drop, length-replicate}
 use lib.Seq.{length-take-le}
@@ -34,7 +34,7 @@ unfoldable pub seriesText : List Stage → ℕ → List ℤ → List ℕ
 seriesText ss M f = report (divisor ss) (smoothSeries fold ss M f (zeros f) (zeros f))
 
 abbrev pub mostText : ℕ
-mostText = 45129
+mostText = 73 + 44 * maxSamples
 
 pub record Lent (n s r w out : ℕ) : Type 0 where
   pub samples : s ≡ n

@@ -10,7 +10,7 @@ use crate::lines;
 use plan::Plan;
 
 // A longer input is no job.
-const MOST_BYTES: usize = 4123;
+pub(crate) const MOST_BYTES: usize = 4123;
 
 const MOST_SAMPLES: usize = record::Job::MAX_SAMPLES as usize;
 

@@ -5,18 +5,21 @@ ghost use lib.ListN.{length};
 mod job;
 mod lines;
 
+// A byte more than a job has, so that a longer input shows. What follows is not read, and says nothing: law program-front.
+const MOST_READ: usize = job::MOST_BYTES + 1;
+
+// A read that fails ends the input. Where the write fails nothing is left to do: what was printed ends there, and so does the program.
 fn main() {
     let mut input = input_buffer();
     let mut out = io::large_buffer();
     let n = io::read_full(libc::STDIN_FILENO, &mut input);
     let end = job::report(&input[..n], &mut out);
-    // Where the write fails nothing is left to do: what was printed ends there, and so does the program.
     io::write_all(libc::STDOUT_FILENO, &out[..end]);
 }
 
-// One byte more than a job has, so that a longer input shows. The rest of that is not read.
-fn input_buffer() -> [u8; 4124]
-    ensures { λ r. ⌜ 4124 ≡ length r ⌝ }
+// The length, said so that the array can be lent.
+fn input_buffer() -> [u8; MOST_READ]
+    ensures { λ r. do ⌜ (← ⟦MOST_READ⟧ .entry) ≡ length r ⌝ }
 {
-    [0; 4124]
+    [0; MOST_READ]
 }

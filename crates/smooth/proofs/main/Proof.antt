@@ -1,4 +1,4 @@
--- What is printed is what was put into the slice.
+-- The text fills the front of its slice, so that front can be lent.
 use borrow.Author.Needs.{needs}
 use Rattle.smooth.specs.Text.{text-counts}
 use Rattle.smooth.proofs.main.Statement.{statement}

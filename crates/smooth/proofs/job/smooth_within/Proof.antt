@@ -1,4 +1,4 @@
--- The first cells of each slice are as many as there are samples.
+-- As many cells are lent as there are samples, and each slice has at least as many.
 use mathlib.Core.Path.{sym}
 use native.Mathlib.Omega.{arith}
 use borrow.Author.Needs.{needs}

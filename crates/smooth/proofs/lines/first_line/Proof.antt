@@ -1,4 +1,4 @@
--- The name, and three numbers behind it.
+-- The name and three numbers stand one behind the other, and the whole line has room.
 use mathlib.Core.Path.{refl, _∙_}
 use mathlib.Core.List.{List, [], _∷_, _++_}
 use Prim.Native.Nat.{ℕ}

@@ -1,4 +1,4 @@
--- The digits, and one byte behind them.
+-- The digits are put first, and the byte that ends them behind.
 use mathlib.Core.Path.{refl}
 use borrow.Author.Needs.{needs}
 use Rattle.encoding.specs.Append.{append-then, room-first, room-rest}

@@ -1,4 +1,4 @@
--- Index and result, each with the byte that ends it.
+-- Index and result stand one behind the other, each with the byte that ends it.
 use mathlib.Core.Path.{refl, _∙_}
 use borrow.Author.Needs.{needs}
 use mir.Facts.{toZ-ofZ}

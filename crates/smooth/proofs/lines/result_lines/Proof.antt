@@ -1,4 +1,4 @@
--- What was put so far are the lines of the results passed.
+-- What was put so far are the lines of the results passed, and the next has room as all of them have.
 use mathlib.Core.Path.{_≡_, refl}
 use Prim.Native.Nat.{_+_, _-_, _≤_}
 use native.Mathlib.Omega.{arith}
