@@ -10,6 +10,7 @@
 --   notWellFormed     the answer 14
 --   begins t n s      s begins with a field of tag t and n bytes
 --   reading t n s k   k, given the number in that field and what stands behind it; else 14
+--   holdsSamples s    s is the field of the samples, and no more
 --   readRecord        the reader's outcome
 --   writeRecord       the writer's outcome, a Written: the answer, and the lent slice afterwards; its rows are writeRows
 use Prim.Native.Nat.{ℕ, _+_, _-_, _*_, _/_, _%_, _^_, _≤_, _<_}
@@ -80,6 +81,10 @@ begins tag n s = eqb (number (take 1 s)) tag && eqb (number (take 2 (drop 1 s)))
 unfoldable pub reading : ℕ → ℕ → List ℕ → (ℕ → List ℕ → Job) → Job
 reading tag n s next = cond (begins tag n s) (next (number (take n (drop 3 s))) (drop (3 + n) s)) notWellFormed
 
+-- the samples take all that is left, so nothing can trail them
+abbrev pub holdsSamples : List ℕ → Bool
+holdsSamples s = let n = length s - 3 in begins 6 n s && eqb (n % 4) 0 && not (outside least maxSamples (n / 4))
+
 -- "Other tags, orders, lengths or trailing bytes are 14."
 unfoldable pub readRecord : List ℕ → Job
 readRecord s =
@@ -88,10 +93,8 @@ readRecord s =
     reading 3 1 s₂ λ a s₃.
     reading 4 1 s₃ λ K s₄.
     reading 5 4 s₄ λ M s₅.
-    -- the samples take all that is left, so nothing can trail them
     let n = length s₅ - 3 in
-    let good = begins 6 n s₅ && eqb (n % 4) 0 && not (outside least maxSamples (n / 4)) in
-    cond good (record { answer = record { number = 0; position = 0 }; radius = r; inner = b; edge = a; passes = K; bound = M; start = length s - n; size = n }) notWellFormed
+    cond (holdsSamples s₅) (record { answer = record { number = 0; position = 0 }; radius = r; inner = b; edge = a; passes = K; bound = M; start = length s - n; size = n }) notWellFormed
 
 pub record Written : Type 0 where
   pub answer : Answer

@@ -1,7 +1,6 @@
 -- The reader as the code goes: by places in the record, where the definition goes by what is left of it.
 --   numberField t n at s   the number in a field of tag t and n bytes at `at`, and the place behind it
 --   left at s              how many bytes follow the head of a field at `at`
---   holdsSamples at s      they are the samples of one
 --   samplesField at s      where the samples start, and how many bytes they are
 --   withNumber, withSamples   what is read with a field's answer; 14 without
 --   jobRead                the answer of a record read to its end
@@ -10,8 +9,8 @@
 -- field-yes, field-no, samples-yes, samples-odd, samples-outside, samples-other (an answer by its tests); field-within, field-below (of a field's answer);
 -- stops-1 .. stops-6, goes-on (the reader's answer, where the first that is none is that of field 1 .. 6, and where all are there).
 use Prim.Native.Nat.{ℕ, _+_, _-_, _/_, _%_, _^_, _≤_, _<_}
-use mathlib.Core.Path.{_≡_, refl, sym, ap}
-use mathlib.Core.Bool.{Bool, true, false, cond, not, _&&_, true≢false, and-true, and-false}
+use mathlib.Core.Path.{_≡_, refl, ap}
+use mathlib.Core.Bool.{Bool, true, false, cond, _&&_, and-true, and-false}
 use mathlib.Core.List.{List}
 use native.Mathlib.Nat.{add-assoc}
 use native.Mathlib.Omega.{arith}
@@ -21,8 +20,9 @@ use lib.ListN.{length, take, drop, length-drop}
 use lib.Seq.{drop-drop}
 use Rattle.meaning.specs.Limits.{least, maxSamples}
 use Rattle.meaning.specs.Encoding.{number}
-use Rattle.meaning.specs.Record.{Job, begins, reading, readRecord, notWellFormed}
+use Rattle.meaning.specs.Record.{Job, begins, holdsSamples, reading, readRecord, notWellFormed}
 use Rattle.meaning.specs.Refusals.{outside}
+use Rattle.theory.specs.Tests.{and-yes}
 use Rattle.theory.specs.Encoding.{Bytes, number-part}
 use Rattle.record.specs.declared.reading.Field.{Field}
 use Rattle.record.specs.declared.reading.Field.the-variants as F
@@ -36,11 +36,8 @@ numberField t n at s = cond (begins t n (drop at s)) (F.Number (number (take n (
 abbrev pub left : ℕ → List ℕ → ℕ
 left at s = length (drop at s) - 3
 
-abbrev pub holdsSamples : ℕ → List ℕ → Bool
-holdsSamples at s = begins 6 (left at s) (drop at s) && eqb (left at s % 4) 0 && not (outside least maxSamples (left at s / 4))
-
 unfoldable pub samplesField : ℕ → List ℕ → Stretch
-samplesField at s = cond (holdsSamples at s) (S.Samples (length s - left at s) (left at s)) S.Other
+samplesField at s = cond (holdsSamples (drop at s)) (S.Samples (length s - left at s) (left at s)) S.Other
 
 abbrev pub withNumber : Field → (ℕ → ℕ → Job) → Job
 withNumber (F.Number v next) k = k v next
@@ -84,13 +81,9 @@ places-read s =
     number-read 3 1 9 s _ _ λ a.
     number-read 4 1 13 s _ _ λ K.
     number-read 5 4 17 s _ _ λ M.
-    samples-read (holdsSamples 24 s) _ _ _
+    samples-read (holdsSamples (drop 24 s)) _ _ _
 
 -- ---- the head of a field
-and-right : (a : Bool) {b : Bool} → (a && b) ≡ true → b ≡ true
-and-right true e = e
-and-right false e = absurd (true≢false (sym e))
-
 pub begins-short : (t n : ℕ) (s : List ℕ) → length s < 3 + n → begins t n s ≡ false
 unfolding begins
 begins-short t n s h = rw (lt-leb (3 + n) (length s) h) (and-false (eqb (number (take 1 s)) t && eqb (number (take 2 (drop 1 s))) n))
@@ -105,7 +98,7 @@ begins-tagged t n s h e = rw (eq-eqb (number (take 1 s)) t e, le-leb (3 + n) (le
 
 pub begins-within : (t n : ℕ) (s : List ℕ) → begins t n s ≡ true → 3 + n ≤ length s
 unfolding begins
-begins-within t n s e = leb-true (3 + n) (length s) (and-right (eqb (number (take 1 s)) t && eqb (number (take 2 (drop 1 s))) n) e)
+begins-within t n s e = leb-true (3 + n) (length s) (and-yes (eqb (number (take 1 s)) t && eqb (number (take 2 (drop 1 s))) n) _ e .1)
 
 -- ---- a field's answer
 abbrev behind : Field → ℕ

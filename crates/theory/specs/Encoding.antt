@@ -1,6 +1,6 @@
 -- Numbers as bytes and as text.
 --   Bytes s   every element of s is below 256; its field `byte i` holds past the end too, where s reads as 0
--- Laws: bytes-take, bytes-drop (of a part);
+-- Laws: bytes-take, bytes-drop (of a part), bytes-cons, bytes-append;
 -- length-bytes, bytes-bytes, bytes-none, bytes-last (the last byte apart); number-last, number-more, number-below, number-part (of a stretch);
 -- number-bytes, bytes-number (they undo each other);
 -- decimal-digit, decimal-next (the last digit apart), decimal-negative; length-decimal.
@@ -44,6 +44,10 @@ bytes-cons {b} {s} l h = record { byte = go }
     go : (i : ℕ) → getD (b ∷ s) i 0 < 256
     go zero = l
     go (suc i) = h .byte i
+
+pub bytes-append : {s t : List ℕ} → Bytes s → Bytes t → Bytes (s ++ t)
+bytes-append {s = []} h k = k
+bytes-append {s = b ∷ s} h k = bytes-cons (h .byte 0) (bytes-append {s = s} (bytes-drop 1 h) k)
 
 -- ---- numbers as bytes
 pub length-bytes : (n x : ℕ) → length (bytes n x) ≡ n

@@ -18,7 +18,7 @@
 --   Picture      rows first or columns first
 --   Refusals     which row answers, and what an answer of 0 says
 --   Places       the first place where a test is true
---   Tests        tests that fail, and why
+--   Tests        tests by what they test, and joined
 --   Encoding     numbers as bytes and as text
 --   Records      the job record: what is written is read, what is read as done was written
 --   Accepted     a call is done exactly where the bounds hold

@@ -5,19 +5,19 @@
 -- reading-yes, reading-no (what its test decides);
 -- length-sampleBytes, sampleBytes-append, sampleBytes-next (one sample more); sampleAt-in, sampleAt-past; sampleAt-fits, samples-fit (samples read fit);
 -- sampleAt-bytes, samples-bytes, bytes-samples (samples and bytes undo each other);
--- length-recordOf; bytes-append, bytes-sampleBytes, bytes-recordOf (these are bytes);
--- read-recordOf, samples-recordOf (what is written is read);
+-- length-recordOf; bytes-sampleBytes, bytes-recordOf (these are bytes);
+-- read-recordOf, stretch-recordOf, samples-recordOf (what is written is read);
 -- read-written (what holds of every record written holds of one read as done), recordOf-read, read-recordable;
 -- read-either, read-number, read-refused (done or not well-formed), read-stretch (of a done one).
 use mathlib.Core.Path.{_≡_, refl, sym, _∙_, ap₂}
 use mathlib.Core.Logic.{_⊎_, inl, inr, ⊎-elim, ⊎-map}
-use mathlib.Core.Bool.{Bool, true, false, cond, not, _&&_, true≢false}
+use mathlib.Core.Bool.{Bool, true, false, cond}
 use mathlib.Core.List.{List, [], _∷_, _++_, append-nil, append-assoc}
 use Prim.Native.Nat.{ℕ, zero, suc, _+_, _-_, _*_, _/_, _%_, _^_, _≤_, _<_}
 use native.Mathlib.Decide.{decLt}
 use native.Mathlib.Omega.{arith}
 use native.Mathlib.Numerals.{add-one}
-use lib.Dec.{eqb, leb·suc-suc, lit<}
+use lib.Dec.{leb·suc-suc, lit<}
 use lib.ListN.{length, take, drop, length-append, length-drop, take-append-drop, drop-of-length-le}
 use lib.Seq.{take-at, drop-at, drop-drop, length-take-le, take-suc, take-length, take-all}
 use lib.IntN.{ℤ, pos}
@@ -29,19 +29,11 @@ use Rattle.meaning.specs.Limits.{least, maxSamples}
 use Rattle.meaning.specs.Encoding.{bytes, number}
 use Rattle.meaning.specs.Extension.{at}
 use Rattle.meaning.specs.Smoothing.{listOf}
-use Rattle.meaning.specs.Refusals.{outside}
-use Rattle.meaning.specs.Record.{field, sampleBytes, sampleAt, recordOf, Recordable, Job, notWellFormed, stretch, samplesOf, begins, reading, readRecord}
+use Rattle.meaning.specs.Record.{field, sampleBytes, sampleAt, recordOf, Recordable, Job, notWellFormed, stretch, samplesOf, begins, holdsSamples, reading, readRecord}
 use Rattle.theory.specs.Lists.{length-listOf, at-listOf, listOf-ext, listOf-at, at-past}
 use Rattle.theory.specs.Refusals.{done}
-use Rattle.theory.specs.Tests.{outside-no, no-outside}
-use Rattle.theory.specs.Encoding.{Bytes, bytes-take, bytes-drop, bytes-cons, length-bytes, bytes-bytes, number-below, number-bytes, bytes-number}
-
-and-yes : (a b : Bool) → (a && b) ≡ true → (a ≡ true) × (b ≡ true)
-and-yes true b e = (refl, e)
-and-yes false b e = absurd (true≢false (sym e))
-
-yes-and : {a b : Bool} → a ≡ true → b ≡ true → (a && b) ≡ true
-yes-and {a} {b} h k = rw (h, k)
+use Rattle.theory.specs.Tests.{outside-no, no-outside, and-yes, yes-and}
+use Rattle.theory.specs.Encoding.{Bytes, bytes-take, bytes-drop, bytes-cons, bytes-append, length-bytes, bytes-bytes, number-below, number-bytes, bytes-number}
 
 -- ---- a field
 module _ (t : ℕ) (v : List ℕ) where
@@ -174,10 +166,6 @@ pub length-recordOf : (r b a K M : ℕ) (f : List ℤ) → length (recordOf r b 
 unfolding recordOf field bytes
 length-recordOf r b a K M f = omega (arith, length-sampleBytes f)
 
-pub bytes-append : {s t : List ℕ} → Bytes s → Bytes t → Bytes (s ++ t)
-bytes-append {s = []} h k = k
-bytes-append {s = b ∷ s} h k = bytes-cons (h .byte 0) (bytes-append {s = s} (bytes-drop 1 h) k)
-
 bytes-field : {t : ℕ} {v : List ℕ} → t < 256 → Bytes v → Bytes (field t v)
 unfolding field
 bytes-field {t} {v} l h = bytes-cons l (bytes-append (bytes-bytes 2 (length v)) h)
@@ -202,12 +190,6 @@ reading-number t n {x} rest k h l =
     let value : take n (drop 3 (field t v ++ rest)) ≡ v = rw size at (value-field t v rest) in
     let behind : drop (3 + n) (field t v ++ rest) ≡ rest = rw size at (rest-field t v rest) in
     reading-yes t n (field t v ++ rest) k (rw size at (begins-field t v rest (rw size l))) ∙ rw (value, behind, number-bytes n x h)
-
--- what the reader asks of what is left for the samples
-abbrev holdsSamples : List ℕ → Bool
-holdsSamples s =
-    let n = length s - 3 in
-    begins 6 n s && eqb (n % 4) 0 && not (outside least maxSamples (n / 4))
 
 holds-samples : (f : List ℤ) → least ≤ length f → length f ≤ maxSamples → holdsSamples (field 6 (sampleBytes f)) ≡ true
 holds-samples f l m =
@@ -236,7 +218,7 @@ read-recordOf {r} {b} {a} {K} {M} {f} ok =
     ∙ reading-number 5 4 s₅ _ (ok .bound) (omega arith)
     ∙ rw (holds-samples f (ok .enough) (ok .few), start, size)
 
-stretch-recordOf : (r b a K M : ℕ) (f : List ℤ) → stretch 27 (4 * length f) (recordOf r b a K M f) ≡ sampleBytes f
+pub stretch-recordOf : (r b a K M : ℕ) (f : List ℤ) → stretch 27 (4 * length f) (recordOf r b a K M f) ≡ sampleBytes f
 unfolding stretch recordOf field bytes
 stretch-recordOf r b a K M f = rw (← length-sampleBytes f) (take-length (sampleBytes f))
 

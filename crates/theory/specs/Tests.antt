@@ -1,7 +1,7 @@
--- Tests that fail, and why they do.
--- Laws: or-no, no-or; some-one, some-replicate; outside-no, no-outside; differs-no, no-differs.
-use mathlib.Core.Path.{_≡_, refl, ap}
-use mathlib.Core.Bool.{Bool, true, false, not, _||_, true≢false, or-false}
+-- Tests by what they test, and joined.
+-- Laws: or-no, no-or; and-yes, yes-and (both pass); some-one, some-replicate; outside-no, no-outside; differs-no, no-differs.
+use mathlib.Core.Path.{_≡_, refl, sym, ap}
+use mathlib.Core.Bool.{Bool, true, false, not, _&&_, _||_, true≢false, or-false}
 use mathlib.Core.List.{[], _∷_}
 use Prim.Native.Nat.{ℕ, zero, suc, _≤_, _<_}
 use native.Mathlib.Omega.{arith}
@@ -16,6 +16,13 @@ or-no true b e = absurd (true≢false e)
 
 pub no-or : {a b : Bool} → a ≡ false → b ≡ false → (a || b) ≡ false
 no-or {a} {b} h k = rw (h, k)
+
+pub and-yes : (a b : Bool) → (a && b) ≡ true → (a ≡ true) × (b ≡ true)
+and-yes true b e = (refl, e)
+and-yes false b e = absurd (true≢false (sym e))
+
+pub yes-and : {a b : Bool} → a ≡ true → b ≡ true → (a && b) ≡ true
+yes-and {a} {b} h k = rw (h, k)
 
 or-same : (b : Bool) → (b || b) ≡ b
 or-same true = refl
