@@ -1,0 +1,3 @@
+-- The words of this crate's contracts.
+--   Text   the text of one job
+pub mod Text
