@@ -42,6 +42,7 @@ const READ_GOOD = [
   readCase('all zero', recordOf([0, 0, 0, 0, 0], [0])),
   readCase('1024 samples', recordOf([1, 2, 1, 1, 8], filled(1024, 0))),
   readCase('1023 samples', recordOf([1, 2, 1, 1, 8], filled(1023, -1))),
+  readCase('bytes each taken modulo 256', JOB.map((byte, n) => (n % 2 ? byte - 256 : byte + 512))),
   readCase('64 samples, length in both bytes', recordOf([1, 2, 1, 1, 8], filled(64, 0))),
 ];
 
@@ -92,6 +93,10 @@ function writeCase(note, [radius, inner, edge, passes, bound], samples, bytes = 
 const FIELDS = [1, 2, 1, 1, 8];
 const WIDEST = [65_535, 255, 255, 255, 4_294_967_295];
 
+// A refused writer gives the slice back, each byte of it taken modulo 256.
+const REFUSED = writeCase('bytes too wide, and refused', FIELDS, [9], 30);
+const WIDE_BYTES = { ...REFUSED, args: { ...REFUSED.args, record: times(30, (n) => 250 + n) } };
+
 const WRITE_EDGES = [
   writeCase('the job of the page', FIELDS, [8, 0, 0]),
   writeCase('all zero', [0, 0, 0, 0, 0], [0]),
@@ -100,6 +105,7 @@ const WRITE_EDGES = [
   writeCase('fields that no plan allows', [2000, 0, 9, 77, 0], [1]),
   writeCase('fields one past their widths', [65_536, 256, 256, 256, 4_294_967_296], [1]),
   writeCase('fields two past their widths', [65_537, 257, 257, 257, 4_294_967_297], [1]),
+  WIDE_BYTES,
   writeCase('fields largest', filled(5, LARGEST_U64), [1]),
   writeCase('64 samples', FIELDS, times(64, (n) => n)),
   writeCase('1024 samples', WIDEST, filled(1024, -5)),

@@ -31,11 +31,11 @@ report-requires c κs = search needs
 array-share-prefix-out : tie.Need-array-share-prefix-out
 array-share-prefix-out c = text-counts (c .before .report .ensures) .0
 
-slice-aggregate-write-all : tie.Need-slice-aggregate-write-all
-slice-aggregate-write-all c = text-counts (c .before .before .report .ensures) .1
+slice-aggregate-print : tie.Need-slice-aggregate-print
+slice-aggregate-print c = text-counts (c .before .before .report .ensures) .1
 
-write-all-requires : tie.Need-write-all-requires
-write-all-requires c κs = search needs
+print-requires : tie.Need-print-requires
+print-requires c κs = search needs
 
 returns : tie.Need-returns
 returns c = search needs
@@ -53,6 +53,6 @@ main-spec =
     slice-aggregate-report-2
     report-requires
     array-share-prefix-out
-    slice-aggregate-write-all
-    write-all-requires
+    slice-aggregate-print
+    print-requires
     returns)
