@@ -1,6 +1,7 @@
 // Runs the program `smooth` on every job of the reference and compares what it prints, byte by byte, with the
 // reference's report: `node tools/try-smooth.mjs [COMMAND [WORD..]]`, by itself with ./smooth of the repository.
 import { spawnSync } from 'node:child_process';
+import { openSync } from 'node:fs';
 import { setTimeout as pause } from 'node:timers/promises';
 import { fileURLToPath } from 'node:url';
 import { JOBS, JOBS_IN_PIECES } from '../reference/jobs.mjs';
@@ -67,6 +68,15 @@ function failureOfStart() {
   return `${command.join(' ')}: no job was tried\n  expected status 0\n  got      ${status ?? signal ?? error.code}`;
 }
 
+// A report that is not taken may not pass for one that is.
+function failureOfFullOutput() {
+  const [name, ...words] = command;
+  const stdio = ['pipe', openSync('/dev/full', 'w'), 'pipe'];
+  const { status, stderr } = spawnSync(name, words, { input: JOBS[0].bytes, stdio, encoding: 'latin1' });
+  if (status !== 0 && stderr !== '') return null;
+  return `standard output full\n  expected another status than 0, and a line on standard error\n  got      ${status} ${shown(stderr)}`;
+}
+
 async function failuresOf(trials) {
   const runs = await severalAtOnce(trials, ({ feed }) => run(command, feed, SECONDS));
   return trials.map((trial, n) => failureOf(trial, runs[n])).filter((failure) => failure !== null);
@@ -81,8 +91,9 @@ function tell(passed, failures) {
 const unable = failureOfStart();
 if (unable === null) {
   // The slow ones have the machine for themselves, so that their reads are as short as they are meant to be.
-  const failures = [...await failuresOf(WHOLE), ...await failuresOf(SLOW)];
-  tell(WHOLE.length + SLOW.length - failures.length, failures);
+  const full = failureOfFullOutput();
+  const failures = [...await failuresOf(WHOLE), ...await failuresOf(SLOW), ...(full === null ? [] : [full])];
+  tell(WHOLE.length + SLOW.length + 1 - failures.length, failures);
 } else {
   tell(0, [unable]);
 }
