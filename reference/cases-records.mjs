@@ -1,4 +1,4 @@
-// Cases of calls 13 and 14: the reader and the writer of the job record.
+// Cases of calls 13, 14 and 101: the reader and the writer of the job record, and a stretch of it.
 import { LARGEST_U64, LEAST_I32, chance, filled, pick, times } from './inputs.mjs';
 import { recordLength, writeRecord } from './record.mjs';
 
@@ -131,4 +131,41 @@ function writeCases() {
   return [...WRITE_EDGES, ...chosen];
 }
 
-export const casesOfRecords = { 13: readCases, 14: writeCases };
+// Call 101.
+
+const BYTES = [0, 0, 0, 7, 255, 255, 255, 254, 128, 0, 0, 1, 127, 255];
+
+function stretchCase(note, record, start, size, index) {
+  return { note, args: { record, start, size, index } };
+}
+
+const FAR = [2n ** 62n, 2n ** 62n + 1n, 2n ** 63n, LARGEST_U64];
+
+const STRETCH_EDGES = [
+  ...[0, 1, 2, 3, 4].map((index) => stretchCase(`all, sample ${index}`, BYTES, 0, 14, index)),
+  ...[0, 1, 3, 4, 5, 7, 8, 12, 13].map((size) => stretchCase(`${size} bytes`, BYTES, 4, size, 1)),
+  ...[1, 2, 4, 10, 11, 13, 14, 15].map((start) => stretchCase(`from ${start} on`, BYTES, start, 14, 0)),
+  ...FAR.map((far) => stretchCase(`from ${far} on`, BYTES, far, 4, 0)),
+  ...FAR.map((far) => stretchCase(`${far} bytes`, BYTES, 6, far, 1)),
+  ...FAR.map((far) => stretchCase(`from 1, ${far} bytes`, BYTES, 1, far, 0)),
+  ...FAR.map((far) => stretchCase(`sample ${far}`, BYTES, 0, 14, far)),
+  stretchCase('start and size wrap together', BYTES, LARGEST_U64, 2, 0),
+  stretchCase('no bytes', [], 0, 4, 0),
+  stretchCase('lowest sample', [128, 0, 0, 0], 0, 4, 0),
+  stretchCase('highest sample', [127, 255, 255, 255], 0, 4, 0),
+  stretchCase('three bytes', [1, 2, 3], 0, 4, 0),
+  stretchCase('samples of the page', JOB, 27, 12, 0),
+  stretchCase('last of 1024 samples', recordOf([1, 2, 1, 1, 8], filled(1024, -5)), 27, 4096, 1023),
+  stretchCase('one past 1024 samples', recordOf([1, 2, 1, 1, 8], filled(1024, -5)), 27, 4096, 1024),
+];
+
+function stretchCases() {
+  const below = chance(159);
+  const chosen = times(30, () => {
+    const record = times(below(40), () => below(256));
+    return stretchCase('chosen', record, below(20), below(30), below(8));
+  });
+  return [...STRETCH_EDGES, ...chosen];
+}
+
+export const casesOfRecords = { 13: readCases, 14: writeCases, 101: stretchCases };

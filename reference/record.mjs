@@ -89,6 +89,18 @@ export function samplesIn(record, start, length) {
   return Int32Array.from({ length: Number(length) / SAMPLE_BYTES }, (_, n) => view.getInt32(SAMPLE_BYTES * n));
 }
 
+function between(bytes, start, count) {
+  return Array.from(bytes).filter((_, at) => BigInt(at) >= start && BigInt(at) < start + count);
+}
+
+// A stretch of bytes, as much of it as there is, and one of its samples; 0 where there are not its four bytes.
+export function stretchAndSample({ record, start, size, index }) {
+  const stretch = between(record, start, size);
+  const four = between(stretch, 4n * index, 4n);
+  const sample = four.length < SAMPLE_BYTES ? 0n : BigInt.asIntN(32, wholeNumber(four));
+  return { length: BigInt(stretch.length), sample, stretch };
+}
+
 function refusalReport(number, position) {
   return `smooth ${number} ${position} 0\n`;
 }

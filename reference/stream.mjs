@@ -1,7 +1,7 @@
 // The stream of the driver `calls`: 8-byte words, high byte first, two's complement, and one line of text a call.
 // A call is its number and then its arguments; a slice is its length and then its elements; a double is its bits.
 import * as calls from './calls.mjs';
-import { readRecord, writeRecord } from './record.mjs';
+import { readRecord, stretchAndSample, writeRecord } from './record.mjs';
 
 const MOST_ELEMENTS = 131_072n;
 const MOST_PRINTED = 64;
@@ -78,6 +78,10 @@ export const CALLS = {
   100: {
     name: 'plan', run: calls.planByItself,
     takes: { plan: 'plan' }, prints: ['divisor', 'reach'],
+  },
+  101: {
+    name: 'stretch', run: stretchAndSample,
+    takes: { record: 'u8s', start: 'u64', size: 'u64', index: 'u64' }, prints: ['length', 'sample', 'stretch'],
   },
 };
 

@@ -31,11 +31,13 @@ function streamFacts() {
   same('refused line', linesFor(callWords(1, { ...args, bound: 7n })), ['11 0 1 -1 2 3 3 3']);
   same('bytes', linesFor(wordsOfBytes(bytesOfWords([...words, ...words]))), new Array(2).fill('0 0 32 24 8 0 0 0'));
   same('line of a plan', linesFor(callWords(100, { plan: plan(1, 2, 1, 8) })), ['16777216 16']);
+  same('line of a stretch', linesFor(callWords(101, { record: [9, 255, 255, 255, 254, 9], start: 1, size: 5, index: 0 })),
+    ['5 -2 255 255 255 254 9']);
   same('first bytes', bytesOfWords([-2n]), [255, 255, 255, 255, 255, 255, 255, 254]);
   same('slice too long', linesFor([...words, 13n, 131_073n]), ['0 0 32 24 8 0 0 0', 'stop']);
   same('negative length', linesFor([13n, -1n]), ['stop']);
   same('call broken off', linesFor([...words, ...words.slice(0, 9)]), ['0 0 32 24 8 0 0 0']);
-  for (const none of [0n, 15n, 99n, 101n, 2n ** 32n + 1n, -1n]) {
+  for (const none of [0n, 15n, 99n, 102n, 2n ** 32n + 1n, -1n]) {
     same(`call ${none}`, linesFor([...words, none, ...words]), ['0 0 32 24 8 0 0 0']);
   }
   same('bits', [bitsOf(0), bitsOf(-0), bitsOf(1)], [0n, 2n ** 63n, 0x3ff0000000000000n]);

@@ -152,6 +152,14 @@ function writeRecord({ radius, inner, edge, passes, bound, samples, record: byte
   return outcomeIs(`writeRecord ${inputs}`, out, { slice: naturals(out.record) });
 }
 
+function stretchOf({ record: bytes, start, size }, out) {
+  return `stretch ${start} ${size} ${naturals(bytes)} ≡ ${naturals(out.stretch)}`;
+}
+
+function sampleOf({ index }, out) {
+  return `sampleAt ${naturals(out.stretch)} ${index} ≡ ${whole(out.sample)}`;
+}
+
 // The program on a record that was read, and on the record of a series that was smoothed.
 function programOfRecord({ record: bytes }, { number, radius, passes, length }) {
   if (bytes.length > MOST_CELLS || (number === 0n && !quick(length / 4n, { radius, passes }))) return null;
@@ -183,6 +191,8 @@ const EQUATIONS = [
   [14, writeRecord],
   [100, ofPlan('planDivisor', 'divisor'), 'divisor'],
   [100, ofPlan('planReach', 'reach'), 'reach'],
+  [101, stretchOf, 'stretch'],
+  [101, sampleOf, 'sample'],
 ];
 
 // The crate of equations. Every definition is opened to the prover.

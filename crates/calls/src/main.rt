@@ -43,6 +43,7 @@ fn one_call(samples: &mut [i32], results: &mut [i64], work: &mut [i64], bytes: &
         13 => records::read_record(&mut open, bytes),
         14 => records::write_record(&mut open, samples, bytes, work),
         100 => plans::divisor_and_reach(&mut open),
+        101 => records::stretch_and_sample(&mut open, bytes, work),
         _ => {
             open = false;
         }

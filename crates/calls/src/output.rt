@@ -64,7 +64,7 @@ fn elements(values: &[i64]) {
     }
 }
 
-fn whole(value: i64) {
+pub(crate) fn whole(value: i64) {
     if value < 0 {
         io::write_all(STDOUT_FILENO, b" -");
         io::print_decimal(STDOUT_FILENO, magnitude(value) + 1);

@@ -66,3 +66,26 @@ fn record_written(
     output::bytes(bytes, room);
     output::end_line();
 }
+
+// Call 101: a stretch of bytes, and one of its samples.
+pub(crate) fn stretch_and_sample(open: &mut bool, bytes: &mut [u8], work: &mut [i64])
+    requires { ⌜ length (now bytes) ≤ length (now work) ⌝ }
+{
+    let all = input::bytes(open, bytes);
+    let start = input::word(open) as usize;
+    let size = input::word(open) as usize;
+    let index = input::word(open) as usize;
+    if *open {
+        stretched(&bytes[..all], start, size, index, work);
+    }
+}
+
+fn stretched(bytes: &[u8], start: usize, size: usize, index: usize, room: &mut [i64])
+    requires { ⌜ length (now bytes) ≤ length (now room) ⌝ }
+{
+    let stretch = record::stretch(bytes, start, size);
+    output::first(stretch.len() as u64);
+    output::whole(record::sample(stretch, index) as i64);
+    output::bytes(stretch, room);
+    output::end_line();
+}

@@ -6,7 +6,7 @@
 -- length-sampleBytes, sampleBytes-append, sampleBytes-next (one sample more); sampleAt-in, sampleAt-past; sampleAt-fits, samples-fit (samples read fit);
 -- sampleAt-bytes, samples-bytes, bytes-samples (samples and bytes undo each other);
 -- length-recordOf; bytes-sampleBytes, bytes-recordOf (these are bytes);
--- read-recordOf, stretch-recordOf, samples-recordOf (what is written is read);
+-- length-stretch; read-recordOf, stretch-recordOf, samples-recordOf (what is written is read);
 -- read-written (what holds of every record written holds of one read as done), recordOf-read, read-recordable;
 -- read-either, read-number, read-refused (done or not well-formed), read-stretch (of a done one).
 use mathlib.Core.Path.{_≡_, refl, sym, _∙_, ap₂}
@@ -18,7 +18,7 @@ use native.Mathlib.Decide.{decLt}
 use native.Mathlib.Omega.{arith}
 use native.Mathlib.Numerals.{add-one}
 use lib.Dec.{leb·suc-suc, lit<}
-use lib.ListN.{length, take, drop, length-append, length-drop, take-append-drop, drop-of-length-le}
+use lib.ListN.{length, take, drop, length-append, length-take, length-drop, take-append-drop, drop-of-length-le}
 use lib.Seq.{take-at, drop-at, drop-drop, length-take-le, take-suc, take-length, take-all}
 use lib.IntN.{ℤ, pos}
 use borrow.Author.Tests.{leb-true, eqb-true, lt-ltb, le-ltb, le-leb, eq-eqb, not-true}
@@ -217,6 +217,10 @@ read-recordOf {r} {b} {a} {K} {M} {f} ok =
     ∙ reading-number 4 1 s₄ _ (ok .passes) (omega arith)
     ∙ reading-number 5 4 s₅ _ (ok .bound) (omega arith)
     ∙ rw (holds-samples f (ok .enough) (ok .few), start, size)
+
+pub length-stretch : (start size : ℕ) (s : List ℕ) → length (stretch start size s) ≤ length s
+unfolding stretch
+length-stretch start size s = omega (arith, length-take size (drop start s), length-drop start s)
 
 pub stretch-recordOf : (r b a K M : ℕ) (f : List ℤ) → stretch 27 (4 * length f) (recordOf r b a K M f) ≡ sampleBytes f
 unfolding stretch recordOf field bytes
