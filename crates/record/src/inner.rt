@@ -1,15 +1,8 @@
 // What programs over the record share.
 ghost use mathlib.Core.Path.{_≡_};
-ghost use Prim.Native.Nat.{min};
 ghost use lib.ListN.{length};
 ghost use Rattle.meaning.specs.Smoothing.{listOf};
 ghost use Rattle.meaning.specs.Record.{sampleAt};
-
-pub fn lesser(a: usize, b: usize) -> usize
-    ensures { λ r. ⌜ r ≡ min a b ⌝ }
-{
-    if a < b { a } else { b }
-}
 
 // Every cell gets its sample of the stretch.
 pub fn load(stretch: &[u8], samples: &mut [i32])

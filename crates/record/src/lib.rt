@@ -78,8 +78,8 @@ pub fn read_record(bytes: &[u8]) -> Job
 pub fn stretch(bytes: &[u8], start: usize, size: usize) -> &[u8]
     ensures { λ r. ⌜ now r ≡ M.stretch start size (now (bytes .entry)) ⌝ }
 {
-    let from = inner::lesser(start, bytes.len());
-    let end = from + inner::lesser(size, bytes.len() - from);
+    let from = reading::lesser(start, bytes.len());
+    let end = from + reading::lesser(size, bytes.len() - from);
     &bytes[from..end]
 }
 

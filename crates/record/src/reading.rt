@@ -1,6 +1,6 @@
 // The fields of a record, taken apart one by one.
 ghost use mathlib.Core.Path.{_≡_};
-ghost use Prim.Native.Nat.{_^_, _≤_, _<_};
+ghost use Prim.Native.Nat.{_^_, _≤_, _<_, min};
 ghost use lib.ListN.{length, drop};
 ghost use Rattle.meaning.specs.Record as M;
 ghost use Rattle.record.specs.Reading.{numberField, samplesField};
@@ -65,4 +65,10 @@ pub(crate) fn samples_field(bytes: &[u8], at: usize) -> Stretch
         return Stretch::Other;
     }
     Stretch::Samples(at + 3, size)
+}
+
+pub(crate) fn lesser(a: usize, b: usize) -> usize
+    ensures { λ r. ⌜ r ≡ min a b ⌝ }
+{
+    if a < b { a } else { b }
 }
