@@ -3,11 +3,12 @@
 --   sampleBytes f     the bytes of samples
 --   sampleAt s i      sample i of such bytes; 0 where there are not its four
 --   recordOf          the record of radius, inner and edge weight, passes, bound and samples
+--   recordSize N      its length, with N samples
 --   Recordable        these are of their fields' widths, and a record holds as many samples
 --   Job               what the reader answers: the numbers, and the stretch that holds the samples, its start and size in bytes
 --   stretch start size s   that stretch of s, as much of it as s has
 --   samplesOf j s     the samples of s, of which the reader answered j
---   notWellFormed     the answer 14
+--   jobRead           that answer of a record read to its end; notWellFormed  the answer 14
 --   begins t n s      s begins with a field of tag t and n bytes
 --   reading t n s k   k, given the number in that field and what stands behind it; else 14
 --   holdsSamples s    s is the field of the samples, and no more
@@ -43,6 +44,10 @@ sampleAt s i = cond (ltb i (length s / 4)) (toZ w32 (number (take 4 (drop (4 * i
 unfoldable pub recordOf : ℕ → ℕ → ℕ → ℕ → ℕ → List ℤ → List ℕ
 recordOf r b a K M f = field 1 (bytes 2 r) ++ field 2 (bytes 1 b) ++ field 3 (bytes 1 a) ++ field 4 (bytes 1 K) ++ field 5 (bytes 4 M) ++ field 6 (sampleBytes f)
 
+-- its length: six heads of three bytes, nine bytes of numbers, four a sample
+abbrev pub recordSize : ℕ → ℕ
+recordSize N = 27 + 4 * N
+
 -- "it takes unsigned numbers of the fields' widths"
 pub record Recordable (r b a K M : ℕ) (f : List ℤ) : Type 0 where
   pub radius : r < 256 ^ 2
@@ -63,6 +68,10 @@ pub record Job : Type 0 where
   pub bound : ℕ
   pub start : ℕ
   pub size : ℕ
+
+-- of a record read to its end
+abbrev pub jobRead : ℕ → ℕ → ℕ → ℕ → ℕ → ℕ → ℕ → Job
+jobRead r b a K M start size = record { answer = record { number = 0; position = 0 }; radius = r; inner = b; edge = a; passes = K; bound = M; start = start; size = size }
 
 -- "at 14 the numbers are 0 and the stretch is empty"
 abbrev pub notWellFormed : Job
@@ -94,7 +103,7 @@ readRecord s =
     reading 4 1 s₃ λ K s₄.
     reading 5 4 s₄ λ M s₅.
     let n = length s₅ - 3 in
-    cond (holdsSamples s₅) (record { answer = record { number = 0; position = 0 }; radius = r; inner = b; edge = a; passes = K; bound = M; start = length s - n; size = n }) notWellFormed
+    cond (holdsSamples s₅) (jobRead r b a K M (length s - n) n) notWellFormed
 
 pub record Written : Type 0 where
   pub answer : Answer

@@ -17,7 +17,7 @@
 --   job-back, fields-back, samples-back   reading what was written gives back every field and every sample; samples-back by the calls that take them out
 --   bytes-back         writing what an accepted record reads gives the same bytes
 --   read-one, stretch-one, sample-one, write-one   two outcomes that the contract allows are the same
-use Prim.Native.Nat.{ℕ, _+_, _*_, _^_, _≤_, _<_}
+use Prim.Native.Nat.{ℕ, _*_, _^_, _≤_, _<_}
 use mathlib.Core.Path.{_≡_, refl, sym, ap, _∙_}
 use mathlib.Core.Logic.{_⊎_}
 use mathlib.Core.List.{List}
@@ -31,15 +31,15 @@ use denote.Triple.Clauses.{AtExit}
 use borrow.Fn.Kinds.{Dens, resT, endedOf}
 use mir.Syntax.{w32}
 use mir.Val.{SFits}
+use Rattle.meaning.specs.Encoding.{Bytes}
 use Rattle.meaning.specs.Limits.{least, maxSamples}
 use Rattle.meaning.specs.Extension.{at}
 use Rattle.meaning.specs.Refusals as meant
 use Rattle.meaning.specs.Refusals.{Row, firstOf, Applies}
 use Rattle.meaning.specs.Record as R
-use Rattle.meaning.specs.Record.{Recordable, recordOf, readRecord, samplesOf, sampleAt, stretch, writeRows, writeRecord}
+use Rattle.meaning.specs.Record.{Recordable, recordOf, recordSize, readRecord, samplesOf, sampleAt, stretch, writeRows, writeRecord}
 use Rattle.theory.specs.Refusals.{first-applies, first-lowest, first-unplaced, done-off, off-done, ifDone-done, ifDone-refused}
 use Rattle.theory.specs.Tests.{outside-no, no-outside, differs-no, no-differs}
-use Rattle.theory.specs.Encoding.{Bytes}
 use Rattle.theory.specs.Records.{length-recordOf, read-recordOf, samples-recordOf, stretch-recordOf, sampleAt-bytes, recordOf-read, read-recordable, read-number as number-either, read-refused as refused-read}
 use Rattle.plan.specs.declared.Answer.{Answer}
 use Rattle.plan.specs.Structs.{answerOf}
@@ -171,9 +171,9 @@ abbrev pub count : WriteCall → ℕ
 count c = length (written c .samples)
 
 abbrev pub rows : WriteCall → List Row
-rows c = writeRows (count c) (length (room c)) (27 + 4 * count c)
+rows c = writeRows (count c) (length (room c)) (recordSize (count c))
 
-length-recorded : (x : Fields) → length (recorded x) ≡ 27 + 4 * length (x .samples)
+length-recorded : (x : Fields) → length (recorded x) ≡ recordSize (length (x .samples))
 length-recorded x = length-recordOf (x .radius) (x .inner) (x .edge) (x .passes) (x .bound) (x .samples)
 
 module _ (c : WriteCall) where
@@ -191,13 +191,13 @@ module _ (c : WriteCall) where
   pub write-lowest : ((c .answered .number ≡ 0 → ⊥) → Applies (c .answered .number) (rows c)) × ((n : ℕ) → Applies n (rows c) → c .answered .number ≤ n)
   write-lowest = rw number-is (first-applies (rows c), λ n k. first-lowest (rows c) tt k)
 
-  pub write-done : c .answered .number ≡ 0 → (least ≤ count c) × (count c ≤ maxSamples) × (length (room c) ≡ 27 + 4 * count c)
+  pub write-done : c .answered .number ≡ 0 → (least ≤ count c) × (count c ≤ maxSamples) × (length (room c) ≡ recordSize (count c))
   write-done e =
       let off = done-off (rows c) tt (sym number-is ∙ e) in
       let few = outside-no least maxSamples (count c) (off .0) in
-      (few .0, few .1, differs-no (length (room c)) (27 + 4 * count c) (off .1 .0))
+      (few .0, few .1, differs-no (length (room c)) (recordSize (count c)) (off .1 .0))
 
-  pub done-write : least ≤ count c → count c ≤ maxSamples → length (room c) ≡ 27 + 4 * count c → c .answered .number ≡ 0
+  pub done-write : least ≤ count c → count c ≤ maxSamples → length (room c) ≡ recordSize (count c) → c .answered .number ≡ 0
   done-write l m e = number-is ∙ ap (λ (x : meant.Answer). x .number) (off-done (rows c) (no-outside l m, (no-differs e, tt)))
 
   pub write-position : c .answered .position ≡ 0

@@ -3,11 +3,11 @@
 -- Laws: asked (the length, where no row applies); refused-writes, done-writes (the promise, by what the rows answer).
 use mathlib.Core.Path.{_≡_, sym, _∙_, ap}
 use mathlib.Core.List.{List}
-use Prim.Native.Nat.{ℕ, _+_, _*_}
+use Prim.Native.Nat.{ℕ}
 use lib.ListN.{length}
 use lib.IntN.{ℤ}
 use Rattle.meaning.specs.Refusals.{Answer, firstOf}
-use Rattle.meaning.specs.Record.{Written, recordOf, writeRows, writeRecord}
+use Rattle.meaning.specs.Record.{Written, recordOf, recordSize, writeRows, writeRecord}
 use Rattle.theory.specs.Refusals.{done-off, ifDone-done, ifDone-refused}
 use Rattle.theory.specs.Tests.{differs-no}
 use Rattle.theory.specs.Records.{length-recordOf}
@@ -20,7 +20,7 @@ pub record Writes (o : Written) (a : Answer) (s : List ℕ) : Type 0 where
 pub asked : (N room need : ℕ) {k : ℕ} → plain k ≡ firstOf (writeRows N room need) → k ≡ 0 → room ≡ need
 asked N room need e z = differs-no room need (done-off (writeRows N room need) tt (ap (λ a. a .number) (sym e) ∙ z) .1 .0)
 
-module _ (r b a K M : ℕ) (f : List ℤ) (old : List ℕ) {k : ℕ} (e : plain k ≡ firstOf (writeRows (length f) (length old) (27 + 4 * length f))) where
+module _ (r b a K M : ℕ) (f : List ℤ) (old : List ℕ) {k : ℕ} (e : plain k ≡ firstOf (writeRows (length f) (length old) (recordSize (length f)))) where
   answered : plain k ≡ firstOf (writeRows (length f) (length old) (length (recordOf r b a K M f)))
   answered = rw (length-recordOf r b a K M f) e
 

@@ -3,7 +3,6 @@
 --   left at s              how many bytes follow the head of a field at `at`
 --   samplesField at s      where the samples start, and how many bytes they are
 --   withNumber, withSamples   what is read with a field's answer; 14 without
---   jobRead                the answer of a record read to its end
 --   readPlaces s           the reader's outcome, field by field
 -- Laws: places-read (it is the definition's); begins-short, begins-other, begins-tagged, begins-within (a field's head by its tests);
 -- field-yes, field-no, samples-yes, samples-odd, samples-outside, samples-other (an answer by its tests); field-within, field-below (of a field's answer);
@@ -19,11 +18,11 @@ use lib.Dec.{eqb}
 use lib.ListN.{length, take, drop, length-drop}
 use lib.Seq.{drop-drop}
 use Rattle.meaning.specs.Limits.{least, maxSamples}
-use Rattle.meaning.specs.Encoding.{number}
-use Rattle.meaning.specs.Record.{Job, begins, holdsSamples, reading, readRecord, notWellFormed}
+use Rattle.meaning.specs.Encoding.{number, Bytes}
+use Rattle.meaning.specs.Record.{Job, jobRead, begins, holdsSamples, reading, readRecord, notWellFormed}
 use Rattle.meaning.specs.Refusals.{outside}
 use Rattle.theory.specs.Tests.{and-yes}
-use Rattle.theory.specs.Encoding.{Bytes, number-part}
+use Rattle.theory.specs.Encoding.{number-part}
 use Rattle.record.specs.declared.reading.Field.{Field}
 use Rattle.record.specs.declared.reading.Field.the-variants as F
 use Rattle.record.specs.declared.reading.Stretch.{Stretch}
@@ -46,9 +45,6 @@ withNumber F.Other k = notWellFormed
 abbrev pub withSamples : Stretch → (ℕ → ℕ → Job) → Job
 withSamples (S.Samples start size) k = k start size
 withSamples S.Other k = notWellFormed
-
-abbrev pub jobRead : ℕ → ℕ → ℕ → ℕ → ℕ → ℕ → ℕ → Job
-jobRead r b a K M start size = record { answer = record { number = 0; position = 0 }; radius = r; inner = b; edge = a; passes = K; bound = M; start = start; size = size }
 
 unfoldable pub readPlaces : List ℕ → Job
 readPlaces s =

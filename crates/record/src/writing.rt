@@ -1,6 +1,5 @@
 // The fields of a record, put one behind the other.
 ghost use mathlib.Core.Path.{_≡_};
-ghost use Prim.Native.Nat.{_+_, _*_};
 ghost use lib.ListN.{length};
 ghost use Rattle.meaning.specs.Refusals.{firstOf};
 ghost use Rattle.meaning.specs.Encoding as E;
@@ -12,7 +11,7 @@ use crate::Job;
 
 // Rows 7 and 8, of so many samples and a slice of so many bytes.
 pub(crate) fn refusal(samples: usize, room: usize) -> u64
-    ensures { λ r. ⌜ plain r ≡ firstOf (M.writeRows samples room (27 + 4 * samples)) ⌝ }
+    ensures { λ r. ⌜ plain r ≡ firstOf (M.writeRows samples room (M.recordSize samples)) ⌝ }
 {
     if plan::inner::outside(1, Job::MAX_SAMPLES, samples as u64) {
         return 7;
@@ -72,7 +71,7 @@ pub(crate) fn put_record(
     samples: &[i32],
     bytes: &mut [u8],
 )
-    requires { ⌜ length (now bytes) ≡ 27 + 4 * length (now samples) ⌝ }
+    requires { ⌜ length (now bytes) ≡ M.recordSize (length (now samples)) ⌝ }
     ensures { λ _. ⌜ now (bytes .exit) ≡ M.recordOf radius inner edge passes bound (now (samples .entry)) ⌝ }
 {
     let at = put_field(bytes, 0, 1, 2, radius as u64);

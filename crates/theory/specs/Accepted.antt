@@ -13,14 +13,14 @@ use lib.Dec.{leb, ltb}
 use lib.ListN.{length, replicate, length-replicate}
 use lib.IntN.{ℤ}
 use borrow.Author.Tests.{ltb-true, ltb-false, leb-false, le-ltb, lt-leb}
-use Rattle.meaning.specs.Limits.{least, maxPasses, maxRadius, maxInner, maxLength, maxResult}
+use Rattle.meaning.specs.Limits.{least, maxPasses, maxRadius, maxInner}
 use Rattle.meaning.specs.Extension.{at}
 use Rattle.meaning.specs.Kernel.{Stage, plan, reach, divisor}
 use Rattle.meaning.specs.Refusals.{Answer, Row, _when_, firstOf, rowAt, some, outside, differs, above, seriesOf, planRows, sizeRows, commonRows, ownRows, planDivisor, planReach}
 use Rattle.meaning.specs.Calls.{sampleRow, smoothRows}
 use Rattle.meaning.specs.Bounds.{AllowedStage, AllowedStages, AllowedPlan, AcceptedPlan, AllowedLength, AllowedSeries, FirstAbove}
 use Rattle.theory.specs.Stages.{PositiveInner, none, _and_, divisor-positive}
-use Rattle.theory.specs.Refusals.{done, Off, Numbered, Unplaced, done-off, off-done, first-unplaced, refused-first, done-rest, off-append, append-off, plan-numbered, common-numbered, ifDone-done, ifDone-refused}
+use Rattle.theory.specs.Refusals.{done, Off, Numbered, Unplaced, done-off, off-done, first-unplaced, refused-first, done-rest, off-append, append-off, common-numbered, ifDone-done, ifDone-refused}
 use Rattle.theory.specs.Places.{rowAt-off, rowAt-none, rowAt-answer}
 use Rattle.theory.specs.Tests.{some-one, some-replicate, or-no, no-or, outside-no, no-outside, differs-no, no-differs}
 

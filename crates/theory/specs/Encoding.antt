@@ -1,5 +1,4 @@
 -- Numbers as bytes and as text.
---   Bytes s   every element of s is below 256; its field `byte i` holds past the end too, where s reads as 0
 -- Laws: bytes-take, bytes-drop (of a part), bytes-cons, bytes-append;
 -- length-bytes, bytes-bytes, bytes-none, bytes-last (the last byte apart); number-last, number-more, number-below, number-part (of a stretch);
 -- number-bytes, bytes-number (they undo each other);
@@ -19,12 +18,9 @@ use lib.Arith.{digits-div, digits-lt, mod-mul}
 use lib.ListN.{length, take, drop, getD, length-append, length-take, List·getD-eq-default}
 use lib.Seq.{take-suc, getD-take, getD-drop}
 use lib.IntN.{ℤ, pos, negsuc}
-use Rattle.meaning.specs.Encoding.{bytes, number, text, digits, decimal}
+use Rattle.meaning.specs.Encoding.{bytes, number, text, digits, decimal, Bytes}
 
 -- ---- lists of bytes
-pub record Bytes (s : List ℕ) : Type 0 where
-  pub byte : (i : ℕ) → getD s i 0 < 256
-
 pub bytes-drop : (n : ℕ) {s : List ℕ} → Bytes s → Bytes (drop n s)
 bytes-drop n {s} h = record { byte = λ i. rw (getD-drop n s i 0) (h .byte (n + i)) }
 

@@ -1,5 +1,4 @@
 -- The job record: what is written is read, and what is read as done was written.
---   jobOf r b a K M f   what the reader answers to recordOf r b a K M f
 --   Stretch s j         how the samples lie in s, read as j: from byte 27 to the end, four bytes each, as many as allowed
 -- Laws: length-field; value-field, rest-field, begins-field (a field in front of a list); length-value, field-begins (what begins with a field is one);
 -- reading-yes, reading-no (what its test decides);
@@ -26,14 +25,14 @@ use mir.Syntax.{w32}
 use mir.Val.{Fits, SFits, ofZ, toZ}
 use mir.Facts.{toZ-ofZ, ofZ-toZ, fits-ofZ, sfits-toZ, sfits-lit}
 use Rattle.meaning.specs.Limits.{least, maxSamples}
-use Rattle.meaning.specs.Encoding.{bytes, number}
+use Rattle.meaning.specs.Encoding.{bytes, number, Bytes}
 use Rattle.meaning.specs.Extension.{at}
 use Rattle.meaning.specs.Smoothing.{listOf}
-use Rattle.meaning.specs.Record.{field, sampleBytes, sampleAt, recordOf, Recordable, Job, notWellFormed, stretch, samplesOf, begins, holdsSamples, reading, readRecord}
+use Rattle.meaning.specs.Record.{field, sampleBytes, sampleAt, recordOf, recordSize, Recordable, Job, jobRead, notWellFormed, stretch, samplesOf, begins, holdsSamples, reading, readRecord}
 use Rattle.theory.specs.Lists.{length-listOf, at-listOf, listOf-ext, listOf-at, at-past}
 use Rattle.theory.specs.Refusals.{done}
 use Rattle.theory.specs.Tests.{outside-no, no-outside, and-yes, yes-and}
-use Rattle.theory.specs.Encoding.{Bytes, bytes-take, bytes-drop, bytes-cons, bytes-append, length-bytes, bytes-bytes, number-below, number-bytes, bytes-number}
+use Rattle.theory.specs.Encoding.{bytes-take, bytes-drop, bytes-cons, bytes-append, length-bytes, bytes-bytes, number-below, number-bytes, bytes-number}
 
 -- ---- a field
 module _ (t : ℕ) (v : List ℕ) where
@@ -162,7 +161,7 @@ bytes-samples (suc n) {s} h e =
     ap₂ (λ (x y : List ℕ). x ++ y) first rest ∙ take-append-drop 4 s
 
 -- ---- the record that is written
-pub length-recordOf : (r b a K M : ℕ) (f : List ℤ) → length (recordOf r b a K M f) ≡ 27 + 4 * length f
+pub length-recordOf : (r b a K M : ℕ) (f : List ℤ) → length (recordOf r b a K M f) ≡ recordSize (length f)
 unfolding recordOf field bytes
 length-recordOf r b a K M f = omega (arith, length-sampleBytes f)
 
@@ -178,9 +177,6 @@ bytes-sampleBytes (z ∷ f) = bytes-append (bytes-bytes 4 (ofZ w32 z)) (bytes-sa
 pub bytes-recordOf : (r b a K M : ℕ) (f : List ℤ) → Bytes (recordOf r b a K M f)
 unfolding recordOf
 bytes-recordOf r b a K M f = search (bytes-append, bytes-field, bytes-bytes, bytes-sampleBytes, lit<, tt) depth 9
-
-abbrev pub jobOf : ℕ → ℕ → ℕ → ℕ → ℕ → List ℤ → Job
-jobOf r b a K M f = record { answer = done; radius = r; inner = b; edge = a; passes = K; bound = M; start = 27; size = 4 * length f }
 
 -- a number of its field's width is read as it was written
 reading-number : (t n : ℕ) {x : ℕ} (rest : List ℕ) (k : ℕ → List ℕ → Job) → x < 256 ^ n → n < 256 ^ 2 → reading t n (field t (bytes n x) ++ rest) k ≡ k x rest
@@ -201,7 +197,7 @@ holds-samples f l m =
     let count : 4 * length f / 4 ≡ length f = omega arith in
     rw (n, front, fours, count, no-outside l m)
 
-pub read-recordOf : {r b a K M : ℕ} {f : List ℤ} → Recordable r b a K M f → readRecord (recordOf r b a K M f) ≡ jobOf r b a K M f
+pub read-recordOf : {r b a K M : ℕ} {f : List ℤ} → Recordable r b a K M f → readRecord (recordOf r b a K M f) ≡ jobRead r b a K M 27 (4 * length f)
 unfolding readRecord recordOf field bytes
 read-recordOf {r} {b} {a} {K} {M} {f} ok =
     let s₅ = field 6 (sampleBytes f) in

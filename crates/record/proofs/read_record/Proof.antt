@@ -1,7 +1,7 @@
 -- Field by field: each answer is one more equation, and the reader of the definition computes by them.
 use mathlib.Core.Path.{_≡_, sym, _∙_}
 use native.Mathlib.Omega.{arith}
-use Rattle.theory.specs.Encoding.{Bytes}
+use Rattle.meaning.specs.Encoding.{Bytes}
 use Rattle.record.specs.declared.reading.Field.the-variants as F
 use Rattle.record.specs.Reading.{numberField, field-within, field-below, stops-1, stops-2, stops-3, stops-4, stops-5, stops-6, goes-on}
 use borrow.Author.Needs.{needs}

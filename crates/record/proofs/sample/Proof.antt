@@ -5,7 +5,8 @@ use native.Mathlib.Omega.{arith}
 use mir.Syntax.{w32}
 use mir.Val.{toZ}
 use mir.Facts.{toZ-ofZ}
-use Rattle.theory.specs.Encoding.{Bytes, number-part}
+use Rattle.meaning.specs.Encoding.{Bytes}
+use Rattle.theory.specs.Encoding.{number-part}
 use Rattle.theory.specs.Records.{sampleAt-in, sampleAt-past}
 use borrow.Author.Needs.{needs, sfits-of}
 use Rattle.record.proofs.sample.Statement.{statement}
