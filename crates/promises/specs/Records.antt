@@ -3,22 +3,24 @@
 --   Fields             what a record holds; recorded x is the record, Holds x that a record can hold it
 --   IsRecord s         s is the record of some fields that it can hold: numbers of their widths, 1 to 1,024 samples
 --   Typed              what the types of the writer's arguments say; of a slice of bytes, `Bytes`
---   bytes, job, read   what a reader was given and answered, and the fields that it answered; stretched, a stretch's answer
+--   bytes, job, read   what a reader was given and answered, and the fields that it answered
+--   cut, from, size, stretched   what was given for a stretch, and answered;  searched, index  what was given for a sample
 --   written, count, room, roomLeft   what a writer was given, and left
 --   read-number        the reader's number is 0 or 14
 --   read-refused       at 14 every number is 0 and the stretch is empty
 --   accepted-record, record-accepted   it is 0 exactly where the bytes are a record: no other tags, orders, lengths or trailing bytes
+--   samples-read       the samples it answered, by the calls that take them out
 --   write-lowest       the writer's number is 0, or that of a row that applies, and then the lowest of those
 --   write-done, done-write             it is 0 exactly where there are 1 to 1,024 samples and room for just the record
 --   write-position     its position is 0
 --   write-unchanged    a refused writer leaves every byte as it was
 --   written-record     one that is done leaves the record of its fields
 --   writes-record, record-written      so what it leaves is a record, and every record is left by it
---   job-back, fields-back, samples-back   reading what was written gives back every field and every sample; samples-back by the calls that take them out
+--   job-back, fields-back, samples-back   reading what was written gives back every field and every sample; samples-back by those calls
 --   bytes-back         writing what an accepted record reads gives the same bytes
 --   read-one, stretch-one, sample-one, write-one   two outcomes that the contract allows are the same
-use Prim.Native.Nat.{ℕ, _*_, _^_, _≤_, _<_}
-use mathlib.Core.Path.{_≡_, refl, sym, ap, _∙_}
+use Prim.Native.Nat.{ℕ, _*_, _/_, _^_, _≤_, _<_}
+use mathlib.Core.Path.{_≡_, refl, sym, ap, _∙_, subst}
 use mathlib.Core.Logic.{_⊎_}
 use mathlib.Core.List.{List}
 use native.Mathlib.Decide.{decLt}
@@ -40,6 +42,7 @@ use Rattle.meaning.specs.Record as R
 use Rattle.meaning.specs.Record.{Recordable, recordOf, recordSize, readRecord, samplesOf, sampleAt, stretch, writeRows, writeRecord}
 use Rattle.theory.specs.Refusals.{first-applies, first-lowest, first-unplaced, done-off, off-done, ifDone-done, ifDone-refused}
 use Rattle.theory.specs.Tests.{outside-no, no-outside, differs-no, no-differs}
+use Rattle.theory.specs.Lists.{at-listOf}
 use Rattle.theory.specs.Records.{length-recordOf, read-recordOf, samples-recordOf, stretch-recordOf, sampleAt-bytes, recordOf-read, read-recordable, read-number as number-either, read-refused as refused-read}
 use Rattle.plan.specs.declared.Answer.{Answer}
 use Rattle.plan.specs.Structs.{answerOf}
@@ -124,8 +127,23 @@ read c =
     let j = job c in
     record { radius = j .radius; inner = j .inner; edge = j .edge; passes = j .passes; bound = j .bound; samples = samplesOf (jobOf j) (bytes c) }
 
+abbrev pub cut : StretchCall → List ℕ
+cut c = now (c .given .0)
+
+abbrev pub from : StretchCall → ℕ
+from c = c .given .1 .0
+
+abbrev pub size : StretchCall → ℕ
+size c = c .given .1 .1 .0
+
 abbrev pub stretched : StretchCall → List ℕ
 stretched c = now (c .answered)
+
+abbrev pub searched : SampleCall → List ℕ
+searched c = now (c .given .0)
+
+abbrev pub index : SampleCall → ℕ
+index c = c .given .1 .0
 
 abbrev pub written : WriteCall → Fields
 written c =
@@ -161,10 +179,20 @@ module _ (c : ReadCall) where
   pub accepted-record : Bytes (bytes c) → job c .number ≡ 0 → IsRecord (bytes c)
   accepted-record h e =
       let z = sym number-read ∙ e in
-      record { fields = fieldsOf (readRecord (bytes c)) (bytes c); holds = read-recordable h z; same = recordOf-read h z }
+      record { fields = read c; holds = subst (λ (x : Fields). Holds x) (sym fields-read) (read-recordable h z); same = ap recorded fields-read ∙ recordOf-read h z }
 
   pub record-accepted : IsRecord (bytes c) → job c .number ≡ 0
   record-accepted x = number-read ∙ ap (λ (s : List ℕ). readRecord s .answer .number) (sym (x .same)) ∙ ap (λ (j : R.Job). j .answer .number) (read-recordOf (x .holds))
+
+stretch-same : {b b′ n n′ : ℕ} {s s′ : List ℕ} → b ≡ b′ → n ≡ n′ → s ≡ s′ → stretch b n s ≡ stretch b′ n′ s′
+stretch-same b n s = rw (b, n, s) refl
+
+-- the samples read are what the calls answer that take the stretch out and read it
+pub samples-read : (c : ReadCall) (t : StretchCall) (x : SampleCall) → cut t ≡ bytes c → from t ≡ job c .start → size t ≡ job c .size → searched x ≡ stretched t → index x < job c .size / 4 → x .answered ≡ at (read c .samples) (index x)
+unfolding samplesOf
+samples-read c t x s b n i l =
+    x .learnt ∙ ap (λ (y : List ℕ). sampleAt y (index x)) (i ∙ t .learnt ∙ stretch-same b n s)
+    ∙ sym (at-listOf (job c .size / 4) (sampleAt (stretch (job c .start) (job c .size) (bytes c))) (index x) l)
 
 -- ---- the writer
 abbrev pub count : WriteCall → ℕ
@@ -231,9 +259,6 @@ module _ (c : WriteCall) where
       (done, written-record done ∙ same)
 
 -- ---- each undoes the other
-stretch-same : {b b′ n n′ : ℕ} {s s′ : List ℕ} → b ≡ b′ → n ≡ n′ → s ≡ s′ → stretch b n s ≡ stretch b′ n′ s′
-stretch-same b n s = rw (b, n, s) refl
-
 fields-recorded : (x : Fields) → Holds x → fieldsOf (readRecord (recorded x)) (recorded x) ≡ x
 fields-recorded x ok =
     let e = read-recordOf ok in
@@ -254,18 +279,16 @@ module _ (w : WriteCall) (c : ReadCall) (typed : Typed (written w)) (done : w .a
   fields-back = fields-read c ∙ ap (λ (s : List ℕ). fieldsOf (readRecord s) s) record-is ∙ fields-recorded (written w) (fits w typed done)
 
   -- through the calls that take the stretch out and read it
-  pub samples-back : (t : StretchCall) (x : SampleCall)
-      → now (t .given .0) ≡ bytes c → t .given .1 .0 ≡ job c .start → t .given .1 .1 .0 ≡ job c .size → now (x .given .0) ≡ stretched t
-      → x .answered ≡ at (written w .samples) (x .given .1 .0)
+  pub samples-back : (t : StretchCall) (x : SampleCall) → cut t ≡ bytes c → from t ≡ job c .start → size t ≡ job c .size → searched x ≡ stretched t → x .answered ≡ at (written w .samples) (index x)
   samples-back t x s b n i =
       let y = written w in
       let stood = stretch-same (b ∙ ap (λ (j : Job). j .start) job-back) (n ∙ ap (λ (j : Job). j .size) job-back) (s ∙ record-is) in
       let inside = i ∙ t .learnt ∙ stood ∙ stretch-recordOf (y .radius) (y .inner) (y .edge) (y .passes) (y .bound) (y .samples) in
-      x .learnt ∙ ap (λ (l : List ℕ). sampleAt l (x .given .1 .0)) inside ∙ sampleAt-bytes (y .samples) (typed .samples) (x .given .1 .0)
+      x .learnt ∙ ap (λ (l : List ℕ). sampleAt l (index x)) inside ∙ sampleAt-bytes (y .samples) (typed .samples) (index x)
 
 pub bytes-back : (c : ReadCall) (w : WriteCall) → Bytes (bytes c) → job c .number ≡ 0 → written w ≡ read c → length (room w) ≡ length (bytes c) → (w .answered .number ≡ 0) × (roomLeft w ≡ bytes c)
 unfolding accepted-record
-bytes-back c w h e f n = record-written w (accepted-record c h e) (f ∙ fields-read c) n
+bytes-back c w h e f n = record-written w (accepted-record c h e) f n
 
 -- ---- one outcome
 abbrev outcome : Fields → List ℕ → R.Written
@@ -277,11 +300,11 @@ outcome-same e f = rw (e, f) refl
 pub read-one : (c d : ReadCall) → bytes c ≡ bytes d → job c ≡ job d
 read-one c d e = ap coded (c .learnt ∙ ap readRecord e ∙ sym (d .learnt))
 
-pub stretch-one : (c d : StretchCall) → now (c .given .0) ≡ now (d .given .0) → c .given .1 .0 ≡ d .given .1 .0 → c .given .1 .1 .0 ≡ d .given .1 .1 .0 → stretched c ≡ stretched d
+pub stretch-one : (c d : StretchCall) → cut c ≡ cut d → from c ≡ from d → size c ≡ size d → stretched c ≡ stretched d
 stretch-one c d s b n = c .learnt ∙ stretch-same b n s ∙ sym (d .learnt)
 
-pub sample-one : (c d : SampleCall) → now (c .given .0) ≡ now (d .given .0) → c .given .1 .0 ≡ d .given .1 .0 → c .answered ≡ d .answered
-sample-one c d s i = c .learnt ∙ ap (λ (l : List ℕ). sampleAt l (c .given .1 .0)) s ∙ ap (sampleAt (now (d .given .0))) i ∙ sym (d .learnt)
+pub sample-one : (c d : SampleCall) → searched c ≡ searched d → index c ≡ index d → c .answered ≡ d .answered
+sample-one c d s i = c .learnt ∙ ap (λ (l : List ℕ). sampleAt l (index c)) s ∙ ap (sampleAt (searched d)) i ∙ sym (d .learnt)
 
 pub write-one : (c d : WriteCall) → written c ≡ written d → room c ≡ room d → (c .answered ≡ d .answered) × (roomLeft c ≡ roomLeft d)
 write-one c d f o =
