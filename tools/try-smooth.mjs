@@ -2,6 +2,7 @@
 // reference's report: `node tools/try-smooth.mjs [COMMAND [WORD..]]`, by itself with ./smooth of the repository.
 import { spawnSync } from 'node:child_process';
 import { openSync } from 'node:fs';
+import { tmpdir } from 'node:os';
 import { setTimeout as pause } from 'node:timers/promises';
 import { fileURLToPath } from 'node:url';
 import { JOBS, JOBS_IN_PIECES } from '../reference/jobs.mjs';
@@ -68,14 +69,18 @@ function failureOfStart() {
   return `${command.join(' ')}: no job was tried\n  expected status 0\n  got      ${status ?? signal ?? error.code}`;
 }
 
-// A report that is not taken may not pass for one that is.
-function failureOfFullOutput() {
+// A job that was not read, or a report that was not taken, may not pass for one that was.
+function failureOfBroken({ note, stdio }) {
   const [name, ...words] = command;
-  const stdio = ['pipe', openSync('/dev/full', 'w'), 'pipe'];
-  const { status, stderr } = spawnSync(name, words, { input: JOBS[0].bytes, stdio, encoding: 'latin1' });
+  const { status, stderr } = spawnSync(name, words, { input: JOBS[0].bytes, stdio: stdio(), encoding: 'latin1' });
   if (status !== 0 && stderr !== '') return null;
-  return `standard output full\n  expected another status than 0, and a line on standard error\n  got      ${status} ${shown(stderr)}`;
+  return `${note}\n  expected another status than 0, and a line on standard error\n  got      ${status} ${shown(stderr)}`;
 }
+
+const BROKEN = [
+  { note: 'standard output full', stdio: () => ['pipe', openSync('/dev/full', 'w'), 'pipe'] },
+  { note: 'standard input a folder', stdio: () => [openSync(tmpdir(), 'r'), 'pipe', 'pipe'] },
+];
 
 async function failuresOf(trials) {
   const runs = await severalAtOnce(trials, ({ feed }) => run(command, feed, SECONDS));
@@ -91,9 +96,9 @@ function tell(passed, failures) {
 const unable = failureOfStart();
 if (unable === null) {
   // The slow ones have the machine for themselves, so that their reads are as short as they are meant to be.
-  const full = failureOfFullOutput();
-  const failures = [...await failuresOf(WHOLE), ...await failuresOf(SLOW), ...(full === null ? [] : [full])];
-  tell(WHOLE.length + SLOW.length + 1 - failures.length, failures);
+  const broken = BROKEN.map(failureOfBroken).filter((failure) => failure !== null);
+  const failures = [...await failuresOf(WHOLE), ...await failuresOf(SLOW), ...broken];
+  tell(WHOLE.length + SLOW.length + BROKEN.length - failures.length, failures);
 } else {
   tell(0, [unable]);
 }

@@ -24,7 +24,7 @@ pub fn number_at(s: &[u8], at: usize, n: usize) -> u64
     x
 }
 
-// Two's complement, from its bits. The bits that they have not, taken away again, leave them.
+// The number that 32 bits stand for in two's complement: from 2^31 on it is negative, and its complement fits.
 pub fn signed(bits: u32) -> i32
     ensures { λ r. ⌜ r ≡ toZ w32 bits ⌝ }
 {
@@ -34,7 +34,7 @@ pub fn signed(bits: u32) -> i32
     !((!bits) as i32)
 }
 
-// n of n, and of -n - 1, so that every i64 has one.
+// n, of n and of -n - 1 alike: so every i64 has one below 2^63, and a negative number one less than its size.
 pub fn magnitude(z: i64) -> u64
     ensures { λ r. ⌜ (r ≡ mag z) × (r < 2 ^ 63) ⌝ }
 {

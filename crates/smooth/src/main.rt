@@ -1,23 +1,39 @@
 // Reads one job from standard input, smooths it, and prints the results.
 ghost use mathlib.Core.Path.{_≡_};
+ghost use Prim.Native.Nat.{suc};
 ghost use lib.ListN.{length};
+ghost use Rattle.meaning.specs.Limits.{maxJob};
 
 mod job;
 mod lines;
 
-// A byte more than a job has, so that a longer input shows. What follows is not read, and says nothing: law program-front.
+// So that a longer input shows. What follows is not read, and says nothing: law program-front.
 const MOST_READ: usize = job::MOST_BYTES + 1;
 
-// A read that fails ends the input, which is then too short for a job.
 fn main() {
     let mut input = input_buffer();
     let mut out = io::large_buffer();
     let n = io::read_full(libc::STDIN_FILENO, &mut input);
+    see_end(n);
     let end = job::report(&input[..n], &mut out);
     print(&out[..end]);
 }
 
-// A program has no exit status of its own to say that its text is not whole.
+// At its end the input gives nothing more, however often it is asked; else a read has failed before.
+fn see_end(n: usize) {
+    if n == MOST_READ {
+        return;
+    }
+    let mut more = [0u8; 1];
+    if libc::read(libc::STDIN_FILENO, &mut more) != 0 {
+        io::write_all(
+            libc::STDERR_FILENO,
+            b"smooth: standard input could not be read to its end\n",
+        );
+    }
+}
+
+// The language gives a program no exit status to say that its text was not taken whole.
 fn print(text: &[u8]) {
     if !io::write_all(libc::STDOUT_FILENO, text) {
         io::write_all(
@@ -27,9 +43,9 @@ fn print(text: &[u8]) {
     }
 }
 
-// The length, said so that the array can be lent.
+// One byte more than a job may have.
 fn input_buffer() -> [u8; MOST_READ]
-    ensures { λ r. do ⌜ (← ⟦MOST_READ⟧ .entry) ≡ length r ⌝ }
+    ensures { λ r. ⌜ suc maxJob ≡ length r ⌝ }
 {
     [0; MOST_READ]
 }

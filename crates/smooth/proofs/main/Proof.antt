@@ -16,6 +16,9 @@ slice-aggregate-read-full c = search needs
 read-full-requires : tie.Need-read-full-requires
 read-full-requires c κs = search needs
 
+see-end-requires : tie.Need-see-end-requires
+see-end-requires c κs = search needs
+
 array-share-prefix-input : tie.Need-array-share-prefix-input
 array-share-prefix-input c = search needs
 
@@ -48,6 +51,7 @@ main-spec =
     large-buffer-requires
     slice-aggregate-read-full
     read-full-requires
+    see-end-requires
     array-share-prefix-input
     slice-aggregate-report
     slice-aggregate-report-2
