@@ -38,7 +38,7 @@ pub(crate) fn report(input: &[u8], out: &mut [u8]) -> usize
     smooth(plan, job.bound as u64, stretch, out)
 }
 
-// Smooths the samples of a stretch.
+// Smooths the samples of a stretch. In three steps, as a proof sees every element of an array of its own: one makes them, one lends their fronts, one works.
 fn smooth(plan: Plan, bound: u64, stretch: &[u8], out: &mut [u8]) -> usize
     requires { ⌜ (length (now stretch) / 4 ≤ maxSamples) × (mostText ≤ length (now out)) ⌝ }
     ensures { λ r. ⌜ Appended (now (out .entry)) 0 (seriesText (stagesOf plan) bound (samplesIn (now (stretch .entry)))) (now (out .exit)) r ⌝ }

@@ -17,12 +17,12 @@ use lib.IntN.{ℤ, pos}
 use borrow.Author.Tests.{lt-ltb, le-ltb}
 use Rattle.meaning.specs.Limits.{maxJob}
 use Rattle.meaning.specs.Encoding.{text, decimal}
-use Rattle.meaning.specs.Extension.{at, IndexMap, fold}
+use Rattle.meaning.specs.Extension.{at, IndexMap}
 use Rattle.meaning.specs.Kernel.{Stage, plan, divisor}
-use Rattle.meaning.specs.Refusals.{Answer, ifDone, planDivisor, zeros}
+use Rattle.meaning.specs.Refusals.{Answer, ifDone, planDivisor}
 use Rattle.meaning.specs.Calls.{Smoothed, smoothed, smoothSeries}
-use Rattle.meaning.specs.Record.{samplesOf, readRecord}
-use Rattle.meaning.specs.Program.{firstLine, resultLines, report, program}
+use Rattle.meaning.specs.Record.{readRecord}
+use Rattle.meaning.specs.Program.{firstLine, resultLines, report, jobStages, jobSmoothed, program}
 use Rattle.theory.specs.Encoding.{length-decimal}
 use Rattle.theory.specs.Refusals.{ifDone-done, ifDone-refused}
 use Rattle.theory.specs.Accepted.{series-allowed, accepted-divisor}
@@ -97,11 +97,7 @@ module _ (s : List ℕ) where
   unfolding program
   program-malformed h = rw (lt-ltb 0 (readRecord s .answer .number) (omega (arith, h)), or-true (ltb maxJob (length s))) refl
 
-  pub program-read : length s ≤ maxJob → readRecord s .answer .number ≡ 0 →
-      let j = readRecord s in
-      let f = samplesOf j s in
-      let ss = plan (j .radius) (j .inner) (j .edge) (j .passes) in
-      program s ≡ report (divisor ss) (smoothSeries fold ss (j .bound) f (zeros f) (zeros f))
+  pub program-read : length s ≤ maxJob → readRecord s .answer .number ≡ 0 → let j = readRecord s in program s ≡ report (divisor (jobStages j)) (jobSmoothed j s)
   unfolding program
   program-read h z = rw (le-ltb maxJob (length s) h, le-ltb 0 (readRecord s .answer .number) (omega arith)) refl
 
