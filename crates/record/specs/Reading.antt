@@ -2,9 +2,7 @@
 --   numberField t n at s   the number in a field of tag t and n bytes at `at`, and the place behind it
 --   left at s              how many bytes follow the head of a field at `at`
 --   samplesField at s      where the samples start, and how many bytes they are
---   withNumber, withSamples   what is read with a field's answer; 14 without
---   readPlaces s           the reader's outcome, field by field
--- Laws: places-read (it is the definition's); begins-short, begins-other, begins-tagged, begins-within (a field's head by its tests);
+-- Laws: begins-short, begins-other, begins-tagged, begins-within (a field's head by its tests);
 -- field-yes, field-no, samples-yes, samples-odd, samples-outside, samples-other (an answer by its tests); field-within, field-below (of a field's answer);
 -- stops-1 .. stops-6, goes-on (the reader's answer, where the first that is none is that of field 1 .. 6, and where all are there).
 use Prim.Native.Nat.{ℕ, _+_, _-_, _/_, _%_, _^_, _≤_, _<_}
@@ -38,15 +36,17 @@ left at s = length (drop at s) - 3
 unfoldable pub samplesField : ℕ → List ℕ → Stretch
 samplesField at s = cond (holdsSamples (drop at s)) (S.Samples (length s - left at s) (left at s)) S.Other
 
-abbrev pub withNumber : Field → (ℕ → ℕ → Job) → Job
+-- what is read with a field's answer; 14 without
+abbrev withNumber : Field → (ℕ → ℕ → Job) → Job
 withNumber (F.Number v next) k = k v next
 withNumber F.Other k = notWellFormed
 
-abbrev pub withSamples : Stretch → (ℕ → ℕ → Job) → Job
+abbrev withSamples : Stretch → (ℕ → ℕ → Job) → Job
 withSamples (S.Samples start size) k = k start size
 withSamples S.Other k = notWellFormed
 
-unfoldable pub readPlaces : List ℕ → Job
+-- the reader's outcome, field by field
+unfoldable readPlaces : List ℕ → Job
 readPlaces s =
     withNumber (numberField 1 2 0 s) λ r at₁.
     withNumber (numberField 2 1 at₁ s) λ b at₂.
@@ -69,7 +69,7 @@ samples-read : (b : Bool) (start size : ℕ) (k : ℕ → ℕ → Job) → withS
 samples-read true start size k = refl
 samples-read false start size k = refl
 
-pub places-read : (s : List ℕ) → readPlaces s ≡ readRecord s
+places-read : (s : List ℕ) → readPlaces s ≡ readRecord s
 unfolding readPlaces readRecord samplesField
 places-read s =
     number-read 1 2 0 s _ _ λ r.

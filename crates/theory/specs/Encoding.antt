@@ -1,6 +1,6 @@
 -- Numbers as bytes and as text.
--- Laws: bytes-take, bytes-drop (of a part), bytes-cons, bytes-append;
--- length-bytes, bytes-bytes, bytes-none, bytes-last (the last byte apart); number-last, number-more, number-below, number-part (of a stretch);
+-- Laws: bytes-take, bytes-drop (of a part);
+-- length-bytes, bytes-none, bytes-last (the last byte apart); number-more, number-below, number-part (of a stretch);
 -- number-bytes, bytes-number (they undo each other);
 -- decimal-digit, decimal-next (the last digit apart), decimal-negative; length-decimal.
 use mathlib.Core.Path.{_≡_, refl, sym, _∙_, ap, ap₂}
@@ -8,7 +8,7 @@ use mathlib.Core.Bool.{Bool, true, false, cond}
 use mathlib.Core.List.{List, [], _∷_, _++_}
 use Prim.Native.Char.{code}
 use Prim.Native.Nat.{ℕ, zero, suc, _+_, _-_, _*_, _/_, _%_, _^_, _≤_, _<_}
-use native.Mathlib.Nat.{pow-suc, pow-le-pow-right, mul-assoc, mod-lt, div-div-eq-div-mul, div-lt-iff-lt-mul, mul-comm, pow-succ', one-le-pow, mod-one, div-one, mul-add-mod-self-right, mul-add-div-right, mod-eq-of-lt}
+use native.Mathlib.Nat.{pow-suc, pow-le-pow-right, mul-assoc, div-div-eq-div-mul, div-lt-iff-lt-mul, mul-comm, pow-succ', one-le-pow, mod-one, div-one, mul-add-mod-self-right, mul-add-div-right, mod-eq-of-lt}
 use native.Mathlib.Decide.{decLt}
 use native.Mathlib.Numerals.{add-one}
 use native.Mathlib.Omega.{arith}
@@ -34,27 +34,11 @@ bytes-take n {s} h = record { byte = λ i. go i (decLt i n) }
 bytes-tail : {b : ℕ} {s : List ℕ} → Bytes (b ∷ s) → Bytes s
 bytes-tail h = record { byte = λ i. h .byte (suc i) }
 
-pub bytes-cons : {b : ℕ} {s : List ℕ} → b < 256 → Bytes s → Bytes (b ∷ s)
-bytes-cons {b} {s} l h = record { byte = go }
-  where
-    go : (i : ℕ) → getD (b ∷ s) i 0 < 256
-    go zero = l
-    go (suc i) = h .byte i
-
-pub bytes-append : {s t : List ℕ} → Bytes s → Bytes t → Bytes (s ++ t)
-bytes-append {s = []} h k = k
-bytes-append {s = b ∷ s} h k = bytes-cons (h .byte 0) (bytes-append {s = s} (bytes-drop 1 h) k)
-
 -- ---- numbers as bytes
 pub length-bytes : (n x : ℕ) → length (bytes n x) ≡ n
 unfolding bytes
 length-bytes zero x = refl
 length-bytes (suc n) x = ap suc (length-bytes n x)
-
-pub bytes-bytes : (n x : ℕ) → Bytes (bytes n x)
-unfolding bytes
-bytes-bytes zero x = record { byte = λ i. omega arith }
-bytes-bytes (suc n) x = bytes-cons (mod-lt (x / 256 ^ n) (omega arith)) (bytes-bytes n x)
 
 bytes-suc : (n x : ℕ) → bytes (suc n) x ≡ bytes n (x / 256) ++ (x % 256) ∷ []
 unfolding bytes
@@ -69,7 +53,7 @@ pub bytes-last : (n x : ℕ) → 0 < n → bytes n x ≡ bytes (n - 1) (x / 256)
 bytes-last zero x h = absurd (omega arith)
 bytes-last (suc n) x h = let one : suc n - 1 ≡ n = omega arith in rw one (bytes-suc n x)
 
-pub number-last : (bs : List ℕ) (b : ℕ) → number (bs ++ b ∷ []) ≡ number bs * 256 + b
+number-last : (bs : List ℕ) (b : ℕ) → number (bs ++ b ∷ []) ≡ number bs * 256 + b
 unfolding number
 number-last [] b = omega arith
 number-last (a ∷ bs) b =

@@ -1,13 +1,10 @@
 -- The job record: what is written is read, and what is read as done was written.
 --   Stretch s j         how the samples lie in s, read as j: from byte 27 to the end, four bytes each, as many as allowed
--- Laws: length-field; value-field, rest-field, begins-field (a field in front of a list); length-value, field-begins (what begins with a field is one);
--- reading-yes, reading-no (what its test decides);
--- length-sampleBytes, sampleBytes-append, sampleBytes-next (one sample more); sampleAt-in, sampleAt-past; sampleAt-fits, samples-fit (samples read fit);
--- sampleAt-bytes, samples-bytes, bytes-samples (samples and bytes undo each other);
--- length-recordOf; bytes-sampleBytes, bytes-recordOf (these are bytes);
--- length-stretch; read-recordOf, stretch-recordOf, samples-recordOf (what is written is read);
+-- Laws: length-field; length-sampleBytes, sampleBytes-next (one sample more); sampleAt-in, sampleAt-past;
+-- sampleAt-bytes (a sample from the bytes of samples); length-recordOf; length-stretch;
+-- read-recordOf, stretch-recordOf, samples-recordOf (what is written is read);
 -- read-written (what holds of every record written holds of one read as done), recordOf-read, read-recordable;
--- read-either, read-number, read-refused (done or not well-formed), read-stretch (of a done one).
+-- read-number, read-refused (done or not well-formed), read-stretch (of a done one).
 use mathlib.Core.Path.{_≡_, refl, sym, _∙_, ap₂}
 use mathlib.Core.Logic.{_⊎_, inl, inr, ⊎-elim, ⊎-map}
 use mathlib.Core.Bool.{Bool, true, false, cond}
@@ -16,7 +13,7 @@ use Prim.Native.Nat.{ℕ, zero, suc, _+_, _-_, _*_, _/_, _%_, _^_, _≤_, _<_}
 use native.Mathlib.Decide.{decLt}
 use native.Mathlib.Omega.{arith}
 use native.Mathlib.Numerals.{add-one}
-use lib.Dec.{leb·suc-suc, lit<}
+use lib.Dec.{leb·suc-suc}
 use lib.ListN.{length, take, drop, length-append, length-take, length-drop, take-append-drop, drop-of-length-le}
 use lib.Seq.{take-at, drop-at, drop-drop, length-take-le, take-suc, take-length, take-all}
 use lib.IntN.{ℤ, pos}
@@ -32,7 +29,7 @@ use Rattle.meaning.specs.Record.{field, sampleBytes, sampleAt, recordOf, record
 use Rattle.theory.specs.Lists.{length-listOf, at-listOf, listOf-ext, listOf-at, at-past}
 use Rattle.theory.specs.Refusals.{done}
 use Rattle.theory.specs.Tests.{outside-no, no-outside, and-yes, yes-and}
-use Rattle.theory.specs.Encoding.{bytes-take, bytes-drop, bytes-cons, bytes-append, length-bytes, bytes-bytes, number-below, number-bytes, bytes-number}
+use Rattle.theory.specs.Encoding.{bytes-take, bytes-drop, length-bytes, number-below, number-bytes, bytes-number}
 
 -- ---- a field
 module _ (t : ℕ) (v : List ℕ) where
@@ -41,14 +38,14 @@ module _ (t : ℕ) (v : List ℕ) where
   length-field = omega arith
 
   module _ (rest : List ℕ) where
-    pub value-field : take (length v) (drop 3 (field t v ++ rest)) ≡ v
+    value-field : take (length v) (drop 3 (field t v ++ rest)) ≡ v
     unfolding field bytes
     value-field = take-at v rest (length v) refl
 
-    pub rest-field : drop (3 + length v) (field t v ++ rest) ≡ rest
+    rest-field : drop (3 + length v) (field t v ++ rest) ≡ rest
     rest-field = drop-at (field t v) rest (3 + length v) length-field
 
-    pub begins-field : length v < 256 ^ 2 → begins t (length v) (field t v ++ rest) ≡ true
+    begins-field : length v < 256 ^ 2 → begins t (length v) (field t v ++ rest) ≡ true
     unfolding begins field bytes number
     begins-field l =
         let tag : t * 1 + 0 ≡ t = omega arith in
@@ -63,10 +60,10 @@ module _ (t n : ℕ) where
       let (a, b) = and-yes _ _ h in
       (eqb-true _ _ a, eqb-true _ _ b, leb-true _ _ k)
 
-  pub length-value : (s : List ℕ) → begins t n s ≡ true → length (take n (drop 3 s)) ≡ n
+  length-value : (s : List ℕ) → begins t n s ≡ true → length (take n (drop 3 s)) ≡ n
   length-value s e = length-take-le n (drop 3 s) (omega (arith, begun s e .2, length-drop 3 s))
 
-  pub field-begins : {s : List ℕ} → Bytes s → begins t n s ≡ true → s ≡ field t (take n (drop 3 s)) ++ drop (3 + n) s
+  field-begins : {s : List ℕ} → Bytes s → begins t n s ≡ true → s ≡ field t (take n (drop 3 s)) ++ drop (3 + n) s
   unfolding field number bytes
   field-begins {s = []} h e = absurd (omega (arith, begun [] e .2))
   field-begins {s = a ∷ []} h e = absurd (omega (arith, begun (a ∷ []) e .2))
@@ -81,13 +78,9 @@ module _ (t n : ℕ) where
 
 -- ---- a field, read
 module _ (t n : ℕ) (s : List ℕ) (k : ℕ → List ℕ → Job) where
-  pub reading-yes : begins t n s ≡ true → reading t n s k ≡ k (number (take n (drop 3 s))) (drop (3 + n) s)
+  reading-yes : begins t n s ≡ true → reading t n s k ≡ k (number (take n (drop 3 s))) (drop (3 + n) s)
   unfolding reading
   reading-yes e = rw e
-
-  pub reading-no : begins t n s ≡ false → reading t n s k ≡ notWellFormed
-  unfolding reading
-  reading-no e = rw e
 
 -- ---- samples
 pub length-sampleBytes : (f : List ℤ) → length (sampleBytes f) ≡ 4 * length f
@@ -95,7 +88,7 @@ unfolding sampleBytes bytes
 length-sampleBytes [] = refl
 length-sampleBytes (z ∷ f) = omega (arith, length-sampleBytes f)
 
-pub sampleBytes-append : (f g : List ℤ) → sampleBytes (f ++ g) ≡ sampleBytes f ++ sampleBytes g
+sampleBytes-append : (f g : List ℤ) → sampleBytes (f ++ g) ≡ sampleBytes f ++ sampleBytes g
 unfolding sampleBytes
 sampleBytes-append [] g = refl
 sampleBytes-append (z ∷ f) g = rw (sampleBytes-append f g, append-assoc)
@@ -126,14 +119,14 @@ sampleAt-bytes [] h i = sampleAt-past [] i (omega arith)
 sampleAt-bytes (z ∷ f) h zero = sampleAt-in (sampleBytes (z ∷ f)) 0 (omega arith) ∙ rw (number-bytes 4 (ofZ w32 z) (fits-ofZ (h 0) .fits)) (toZ-ofZ (h 0))
 sampleAt-bytes (z ∷ f) h (suc i) = sampleAt-later (sampleBytes (z ∷ f)) (omega arith) i ∙ sampleAt-bytes f (λ i. h (suc i)) i
 
-pub samples-bytes : (f : List ℤ) → ((i : ℕ) → SFits w32 (at f i)) → listOf (length f) (sampleAt (sampleBytes f)) ≡ f
+samples-bytes : (f : List ℤ) → ((i : ℕ) → SFits w32 (at f i)) → listOf (length f) (sampleAt (sampleBytes f)) ≡ f
 samples-bytes f h = listOf-ext (length f) (λ i l. sampleAt-bytes f h i) ∙ listOf-at (length f) f refl
 
 -- four bytes are the bits of a sample
 four-fit : {v : List ℕ} → Bytes v → length v ≡ 4 → Fits w32 (number v)
 four-fit {v} h e = record { fits = rw e at (number-below v h) }
 
-pub sampleAt-fits : {s : List ℕ} → Bytes s → (i : ℕ) → SFits w32 (sampleAt s i)
+sampleAt-fits : {s : List ℕ} → Bytes s → (i : ℕ) → SFits w32 (sampleAt s i)
 sampleAt-fits {s} h i = go (decLt i (length s / 4))
   where
     go : Dec (i < length s / 4) → SFits w32 (sampleAt s i)
@@ -142,14 +135,14 @@ sampleAt-fits {s} h i = go (decLt i (length s / 4))
         rw (sampleAt-in s i l) (sfits-toZ (four-fit (bytes-take 4 (bytes-drop (4 * i) h)) four))
     go (no l) = rw (sampleAt-past s i (omega arith)) (sfits-lit tt)
 
-pub samples-fit : (n : ℕ) {s : List ℕ} → Bytes s → (i : ℕ) → SFits w32 (at (listOf n (sampleAt s)) i)
+samples-fit : (n : ℕ) {s : List ℕ} → Bytes s → (i : ℕ) → SFits w32 (at (listOf n (sampleAt s)) i)
 samples-fit n {s} h i = go (decLt i n)
   where
     go : Dec (i < n) → SFits w32 (at (listOf n (sampleAt s)) i)
     go (yes l) = rw (at-listOf n (sampleAt s) i l) (sampleAt-fits h i)
     go (no l) = rw (at-past (listOf n (sampleAt s)) i (omega (arith, length-listOf n (sampleAt s)))) (sfits-lit tt)
 
-pub bytes-samples : (n : ℕ) {s : List ℕ} → Bytes s → length s ≡ 4 * n → sampleBytes (listOf n (sampleAt s)) ≡ s
+bytes-samples : (n : ℕ) {s : List ℕ} → Bytes s → length s ≡ 4 * n → sampleBytes (listOf n (sampleAt s)) ≡ s
 unfolding sampleBytes listOf
 bytes-samples zero {s = []} h e = refl
 bytes-samples zero {s = a ∷ s} h e = let no : ⊥ = omega arith in absurd no
@@ -164,19 +157,6 @@ bytes-samples (suc n) {s} h e =
 pub length-recordOf : (r b a K M : ℕ) (f : List ℤ) → length (recordOf r b a K M f) ≡ recordSize (length f)
 unfolding recordOf field bytes
 length-recordOf r b a K M f = omega (arith, length-sampleBytes f)
-
-bytes-field : {t : ℕ} {v : List ℕ} → t < 256 → Bytes v → Bytes (field t v)
-unfolding field
-bytes-field {t} {v} l h = bytes-cons l (bytes-append (bytes-bytes 2 (length v)) h)
-
-pub bytes-sampleBytes : (f : List ℤ) → Bytes (sampleBytes f)
-unfolding sampleBytes
-bytes-sampleBytes [] = bytes-take 0 (bytes-bytes 0 0)
-bytes-sampleBytes (z ∷ f) = bytes-append (bytes-bytes 4 (ofZ w32 z)) (bytes-sampleBytes f)
-
-pub bytes-recordOf : (r b a K M : ℕ) (f : List ℤ) → Bytes (recordOf r b a K M f)
-unfolding recordOf
-bytes-recordOf r b a K M f = search (bytes-append, bytes-field, bytes-bytes, bytes-sampleBytes, lit<, tt) depth 9
 
 -- a number of its field's width is read as it was written
 reading-number : (t n : ℕ) {x : ℕ} (rest : List ℕ) (k : ℕ → List ℕ → Job) → x < 256 ^ n → n < 256 ^ 2 → reading t n (field t (bytes n x) ++ rest) k ≡ k x rest
@@ -340,7 +320,7 @@ read-walk s =
     left = simp length-drop (omega arith)
 
 module _ (s : List ℕ) where
-  pub read-either : (readRecord s ≡ notWellFormed) ⊎ (readRecord s .answer ≡ done)
+  read-either : (readRecord s ≡ notWellFormed) ⊎ (readRecord s .answer ≡ done)
   read-either = ⊎-map (λ e. e) (λ h. h .0) (read-walk s)
 
   pub read-number : (readRecord s .answer .number ≡ 0) ⊎ (readRecord s .answer .number ≡ 14)
