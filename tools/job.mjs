@@ -80,7 +80,10 @@ async function answerTo(args) {
 }
 
 // A reader that went away has said why itself.
-process.stdout.on('error', () => process.exit(1));
+process.stdout.on('error', (error) => {
+  if (error.code !== 'EPIPE') console.error(`job: standard output: ${error.message}`);
+  process.exit(1);
+});
 try {
   process.stdout.write(await answerTo(process.argv.slice(2)));
 } catch (error) {
