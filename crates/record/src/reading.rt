@@ -18,7 +18,7 @@ pub(crate) enum Stretch {
     Other,
 }
 
-// Is there a field of this tag and so many bytes?
+// Is there a field of this tag and so many bytes at `at`?
 fn begins(bytes: &[u8], at: usize, tag: u64, size: usize) -> bool
     requires { ⌜ (at ≤ length (now bytes)) × (size < 2 ^ 63) ⌝ }
     ensures { λ r. ⌜ r ≡ M.begins tag size (drop at (now (bytes .entry))) ⌝ }
