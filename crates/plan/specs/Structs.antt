@@ -3,12 +3,22 @@
 --   stagesOf p   its stages: K equal ones
 --   answerOf a   number and position
 --   plain n      the answer n, with position 0
+--   editAnswer e   number and position of what an edit answers
+--   pointAnswer q, pointValue q   number and position, and value, of each case of what a point answers; a refused one has plus zero
+--   pointOf a x    what a point answers: the value x where a is done, else a
 use Prim.Native.Nat.{ℕ}
+use mathlib.Core.Bool.{cond}
 use mathlib.Core.List.{List}
+use lib.Dec.{eqb}
+use lib.Ieee.{Float}
 use Rattle.meaning.specs.Kernel.{Stage, plan}
 use Rattle.meaning.specs.Refusals as meant
 use Rattle.plan.specs.declared.Plan.{Plan}
+use Rattle.meaning.specs.Values.{plusZero}
 use Rattle.plan.specs.declared.Answer.{Answer}
+use Rattle.plan.specs.declared.Edited.{Edited}
+use Rattle.plan.specs.declared.Point.{Point}
+use Rattle.plan.specs.declared.Point.the-variants.{Value, Refused}
 
 abbrev pub stageOf : Plan → Stage
 stageOf p = record { radius = p .radius; inner = p .inner; edge = p .edge }
@@ -21,3 +31,17 @@ answerOf a = record { number = a .number; position = a .position }
 
 abbrev pub plain : ℕ → meant.Answer
 plain n = record { number = n; position = 0 }
+
+abbrev pub editAnswer : Edited → meant.Answer
+editAnswer e = record { number = e .number; position = e .position }
+
+abbrev pub pointAnswer : Point → meant.Answer
+pointAnswer (Value x) = plain 0
+pointAnswer (Refused n i) = record { number = n; position = i }
+
+abbrev pub pointValue : Point → Float
+pointValue (Value x) = x
+pointValue (Refused n i) = plusZero
+
+abbrev pub pointOf : meant.Answer → Float → Point
+pointOf a x = cond (eqb (a .number) 0) (Value x) (Refused (a .number) (a .position))

@@ -1,18 +1,19 @@
 // The tests that calls share. A number answered is the first row that applies, 0 where none does.
 ghost use mathlib.Core.Path.{_≡_};
 ghost use mathlib.Core.Bool.{_||_};
-ghost use mathlib.Core.List.{[], _∷_};
-ghost use Prim.Native.Nat.{_+_, _*_, _≤_};
+ghost use mathlib.Core.List.{List, [], _∷_};
+ghost use Prim.Native.Nat.{_+_, _*_, _^_, _≤_, _<_};
 ghost use lib.ListN.{length};
 ghost use lib.IntN.{natAbs};
 ghost use Rattle.meaning.specs.Limits.{least, maxPasses, maxRadius, maxInner, maxBound, maxResult, maxLength, maxSide};
-ghost use Rattle.meaning.specs.Kernel.{tapSum, tapReach, divisor};
+ghost use Rattle.meaning.specs.Kernel.{Stage, tapSum, tapReach, divisor};
 ghost use Rattle.meaning.specs.Refusals as R;
 ghost use Rattle.meaning.specs.Refusals.{_when_};
 ghost use Rattle.meaning.specs.Calls as C;
 ghost use Rattle.plan.specs.Structs.{stageOf, stagesOf, answerOf, plain};
 ghost use Rattle.plan.specs.Tested.{Tested};
 ghost use Rattle.plan.specs.Capped.{capped};
+ghost use Rattle.plan.specs.Span.{low, high};
 use crate::Answer;
 use crate::Plan;
 
@@ -141,15 +142,14 @@ pub fn series_refusal(plan: Plan, bound: u64, cells: usize, wrong_length: bool) 
     size_refusal(bound, scaled(bound, plan), bad_size, wrong_length)
 }
 
-// The size of a sample, also of the lowest, which no i32 has with the other sign.
-fn size(x: i32) -> u64
+// The size of a number, also of the lowest, which no i64 has with the other sign.
+pub fn size(x: i64) -> u64
     ensures { λ r. ⌜ r ≡ natAbs x ⌝ }
 {
-    let wide = x as i64;
-    if wide < 0 {
-        return (0 - wide) as u64;
+    if x < 0 {
+        return (0 - (x + 1)) as u64 + 1;
     }
-    wide as u64
+    x as u64
 }
 
 // Row 11, of the samples from start up to end.
@@ -159,7 +159,7 @@ pub fn sample_refusal(bound: u64, samples: &[i32], start: usize, end: usize) -> 
 {
     let mut i = start;
     while i < end {
-        if bound < size(samples[i]) {
+        if bound < size(samples[i] as i64) {
             return Answer {
                 number: 11,
                 position: i,
@@ -171,4 +171,28 @@ pub fn sample_refusal(bound: u64, samples: &[i32], start: usize, end: usize) -> 
         number: 0,
         position: 0,
     }
+}
+
+// The cells of work that an edit and a point ask, under every plan.
+pub fn edit_room(len: usize) -> usize
+    requires { ⌜ 2 * len < 2 ^ 64 ⌝ }
+    ensures { λ r. ⌜ ((ss : List Stage) → r ≡ C.editRoom ss len) ⌝ }
+{
+    2 * len
+}
+
+// What lies within reach of p begins here ..
+pub fn reach_start(p: usize, reach: usize) -> usize
+    ensures { λ r. ⌜ r ≡ low p reach ⌝ }
+{
+    if p < reach { 0 } else { p - reach }
+}
+
+// .. and ends before this.
+pub fn reach_end(len: usize, p: usize, reach: usize) -> usize
+    requires { ⌜ p + reach + 1 < 2 ^ 64 ⌝ }
+    ensures { λ r. ⌜ r ≡ high len p reach ⌝ }
+{
+    let end = p + reach + 1;
+    if len < end { len } else { end }
 }

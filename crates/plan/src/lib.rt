@@ -26,6 +26,12 @@ pub struct Edited {
     pub count: usize,
 }
 
+// What a point answers: the smoothed value, or a refusal with its number and index.
+pub enum Point {
+    Value(f64),
+    Refused(u64, usize),
+}
+
 impl Plan {
     // Passes, inner weight, bound, lengths and sides go from this; radius and edge weight from 0.
     pub const LEAST: u64 = 1;

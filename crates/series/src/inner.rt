@@ -64,7 +64,7 @@ fn first_window(src: &[i64], radius: usize) -> i64
 }
 
 // A window and the cells beside it, weighed.
-fn cell(inner: i64, edge: i64, w: i64, lo: i64, hi: i64) -> i64
+pub fn cell(inner: i64, edge: i64, w: i64, lo: i64, hi: i64) -> i64
     requires { ⌜ SFits w64 (inner *ℤ w) ⌝ }
     requires { ⌜ SFits w64 (lo +ℤ hi) ⌝ }
     requires { ⌜ SFits w64 (edge *ℤ (lo +ℤ hi)) ⌝ }
@@ -75,7 +75,7 @@ fn cell(inner: i64, edge: i64, w: i64, lo: i64, hi: i64) -> i64
 }
 
 // The window one cell on: hi enters, first leaves.
-fn slide(w: i64, hi: i64, first: i64) -> i64
+pub fn slide(w: i64, hi: i64, first: i64) -> i64
     requires { ⌜ SFits w64 (w +ℤ hi) ⌝ }
     requires { ⌜ SFits w64 (w +ℤ hi -ℤ first) ⌝ }
     ensures { λ r. ⌜ r ≡ w +ℤ hi -ℤ first ⌝ }

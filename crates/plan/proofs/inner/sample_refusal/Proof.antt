@@ -5,11 +5,12 @@ use mathlib.Core.Bool.{Bool, true, false, _&&_, and-false}
 use mathlib.Core.List.{List, []}
 use native.Mathlib.Omega.{arith}
 use native.Mathlib.Decide.{decLt}
-use borrow.Author.Needs.{needs}
+use borrow.Author.Needs.{needs, sfits-of}
 use borrow.Author.Tests.{lt-ltb, le-ltb, lt-leb, le-leb}
 use lib.Dec.{leb}
 use lib.IntN.{ℤ, natAbs}
-use mir.Syntax.{w32}
+use mir.Syntax.{w32, w64}
+use mir.Val.{SFits, toZ, ofZ}
 use mir.Facts.{toZ-ofZ}
 use Rattle.meaning.specs.Extension.{at}
 use Rattle.meaning.specs.Refusals.{above, within}
@@ -56,11 +57,20 @@ mul-size c = search needs
 shared-slice-copy-out-size : tie.Need-shared-slice-copy-out-size Inv-loop μ-loop
 shared-slice-copy-out-size c = omega arith
 
+wider : {z : ℤ} → SFits w32 z → SFits w64 z
+wider f = omega arith
+
+sample-read : (c : tie.After-size-arg Inv-loop μ-loop) → toZ w32 (ofZ w32 (at (c .before .before .before .args .samples .now) (c .before .before .loop .i))) ≡ at (c .before .before .before .args .samples .now) (c .before .before .loop .i)
+sample-read c = toZ-ofZ (sfits-of (c .size-arg .given))
+
+cast-size : tie.Need-cast-size Inv-loop μ-loop
+cast-size c = rw (sample-read c) (wider (sfits-of (c .size-arg .given)))
+
 size-requires : tie.Need-size-requires Inv-loop μ-loop
 size-requires c κs = tt
 
 size-is : (c : tie.After-size Inv-loop μ-loop) → c .size .result ≡ natAbs (at (c .before .before .before .before .args .samples .now) (c .before .before .before .loop .i))
-size-is c = c .size .ensures ∙ ap natAbs (toZ-ofZ {w = w32} {z = at (c .before .before .before .before .args .samples .now) (c .before .before .before .loop .i)} (record { sfits = c .before .size-arg .given }))
+size-is c = c .size .ensures ∙ ap natAbs (toZ-ofZ (cast-size (c .before)) ∙ sample-read (c .before))
 
 returns : tie.Need-returns Inv-loop μ-loop
 returns c =
@@ -95,6 +105,7 @@ sample-refusal-spec =
     loop-holds
     mul-size
     shared-slice-copy-out-size
+    cast-size
     size-requires
     returns
     add-i

@@ -1,0 +1,44 @@
+// The test of an edit before its results are looked at.
+ghost use mathlib.Core.Path.{_≡_};
+ghost use Rattle.meaning.specs.Refusals as R;
+ghost use Rattle.plan.specs.Structs.{stagesOf, answerOf};
+ghost use Rattle.edit.specs.Contract.{frontRows};
+use plan::Answer;
+use plan::Plan;
+
+// Rows 1 to 11.
+pub(crate) fn refusal(
+    plan: Plan,
+    bound: u64,
+    position: usize,
+    value: i64,
+    samples: &[i32],
+    results: usize,
+    work: usize,
+) -> Answer
+    ensures { λ r. ⌜ answerOf r ≡ R.firstOf (frontRows (stagesOf plan) bound position value (now (samples .entry)) results work) ⌝ }
+{
+    let n = samples.len();
+    let room = plan::inner::edit_room(n);
+    let wrong_length = plan::inner::lengths_differ(results, n, work, room);
+    let number = plan::inner::series_refusal(plan, bound, n, wrong_length);
+    if number != 0 {
+        return Answer {
+            number,
+            position: 0,
+        };
+    }
+    if n <= position {
+        return Answer {
+            number: 9,
+            position: 0,
+        };
+    }
+    if bound < plan::inner::size(value) {
+        return Answer {
+            number: 10,
+            position: 0,
+        };
+    }
+    plan::inner::sample_refusal(bound, samples, position, position + 1)
+}

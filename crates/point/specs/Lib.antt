@@ -1,0 +1,5 @@
+-- The words of this crate's contracts, and the laws of its loops.
+--   Contract   what the call promises
+--   Shares     what samples hold of a result, by the taps
+pub mod Contract
+pub mod Shares

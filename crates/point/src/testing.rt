@@ -1,0 +1,38 @@
+// The test of a point.
+ghost use mathlib.Core.Path.{_≡_};
+ghost use Rattle.meaning.specs.Refusals as R;
+ghost use Rattle.meaning.specs.Calls as C;
+ghost use Rattle.plan.specs.Structs.{stagesOf, answerOf};
+use plan::Answer;
+use plan::Plan;
+
+// What a point answers where it is refused: of the samples only those within reach are looked at.
+pub(crate) fn refusal(
+    plan: Plan,
+    bound: u64,
+    position: usize,
+    samples: &[i32],
+    work: usize,
+) -> Answer
+    ensures { λ r. ⌜ answerOf r ≡ R.firstOf (C.pointRows (stagesOf plan) bound position (now (samples .entry)) work) ⌝ }
+{
+    let n = samples.len();
+    let wrong_length = work != plan::inner::edit_room(n);
+    let number = plan::inner::series_refusal(plan, bound, n, wrong_length);
+    if number != 0 {
+        return Answer {
+            number,
+            position: 0,
+        };
+    }
+    if n <= position {
+        return Answer {
+            number: 9,
+            position: 0,
+        };
+    }
+    let reach = plan.reach() as usize;
+    let start = plan::inner::reach_start(position, reach);
+    let end = plan::inner::reach_end(n, position, reach);
+    plan::inner::sample_refusal(bound, samples, start, end)
+}
