@@ -19,6 +19,7 @@
 --   Refusals     which row answers, and what an answer of 0 says
 --   Places       the first place where a test is true
 --   Tests        tests by what they test, and joined
+--   Values       a result over the divisor
 --   Encoding     numbers as bytes and as text
 --   Records      the job record: what is written is read, what is read as done was written
 --   Accepted     a call is done exactly where the bounds hold
@@ -44,6 +45,7 @@ pub mod Picture
 pub mod Refusals
 pub mod Places
 pub mod Tests
+pub mod Values
 pub mod Encoding
 pub mod Records
 pub mod Accepted

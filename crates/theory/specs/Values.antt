@@ -1,0 +1,34 @@
+-- Values of results.
+-- Laws: ratio-zero (0 over a divisor is plus zero).
+use mathlib.Core.Path.{_≡_, sym, ap, subst, _∙_}
+use mathlib.Core.Bool.{Bool, true, false, cond, true≢false}
+use Prim.Native.Nat.{ℕ, _*_, _^_, _≤_, _<_}
+use native.Mathlib.Omega.{arith}
+use native.Mathlib.Nat.{zero-mul, mul-pos, mul-one, lt-irrefl}
+use borrow.Author.Tests.{ne-eqb}
+use lib.IntN.{pos}
+use lib.Ieee.{Float, nan, inf, fin, binary64, up, down, round, ofInt, div}
+use lib.Ieee.Exact.{HasValue}
+use lib.Ieee.Back.{round-whole}
+use lib.Ieee.Fits.{down-pos}
+use lib.Ieee.Scale.{round-same}
+use Rattle.meaning.specs.Limits.{least, maxResult}
+use Rattle.meaning.specs.Values.{ratio, plusZero}
+
+round-zero : (a den : ℕ) → 0 < den → a ≡ 0 → round binary64 false a den ≡ plusZero
+unfolding round
+round-zero a den h z = round-same binary64 false a den 0 1 h (omega arith) (mul-one a ∙ z ∙ sym (zero-mul den))
+
+zero-by : (y : Float) {n : ℕ} → 0 < n → HasValue y false n 1 → div binary64 plusZero y ≡ plusZero
+unfolding div
+zero-by nan h v = absurd v
+zero-by (inf t) h v = absurd v
+zero-by (fin true k d) h v = absurd (true≢false (v .0))
+zero-by (fin false k d) h v =
+    let den : 0 < k * up d * 1 = subst (λ (m : ℕ). 0 < m) (sym (v .1)) (mul-pos h (down-pos d)) in
+    let some : k ≡ 0 → ⊥ = λ z. lt-irrefl 0 (subst (λ (m : ℕ). 0 < m) (ap (λ (m : ℕ). m * up d * 1) z ∙ ap (λ (m : ℕ). m * 1) (zero-mul (up d))) den) in
+    ap (λ (b : Bool). cond b nan (round binary64 false (0 * down d) (k * up d * 1))) (ne-eqb k 0 some) ∙ round-zero (0 * down d) (k * up d * 1) den (zero-mul (down d))
+
+pub ratio-zero : {d : ℕ} → least ≤ d → d ≤ maxResult → ratio (pos 0) d ≡ plusZero
+unfolding ratio ofInt round
+ratio-zero {d} p h = zero-by (round binary64 false d 1) p (round-whole binary64 false d (omega arith))
