@@ -1,8 +1,9 @@
 // The tests that calls share. A number answered is the first row that applies, 0 where none does.
 ghost use mathlib.Core.Path.{_≡_};
 ghost use mathlib.Core.Bool.{_||_};
-ghost use mathlib.Core.List.{List, [], _∷_};
+ghost use mathlib.Core.List.{List, [], _∷_, _++_};
 ghost use Prim.Native.Nat.{_+_, _*_, _^_, _≤_, _<_};
+ghost use lib.Dec.{leb};
 ghost use lib.ListN.{length};
 ghost use lib.IntN.{natAbs};
 ghost use Rattle.meaning.specs.Limits.{least, maxPasses, maxRadius, maxInner, maxBound, maxResult, maxLength, maxSide};
@@ -140,6 +141,26 @@ pub fn series_refusal(plan: Plan, bound: u64, cells: usize, wrong_length: bool) 
     }
     let bad_size = outside(Plan::LEAST, Plan::MAX_LENGTH, cells as u64);
     size_refusal(bound, scaled(bound, plan), bad_size, wrong_length)
+}
+
+// Rows 1 to 9 of a series with a place in it.
+pub fn position_refusal(
+    plan: Plan,
+    bound: u64,
+    cells: usize,
+    wrong_length: bool,
+    position: usize,
+) -> u64
+    ensures { λ r. ⌜ plain r ≡ R.firstOf (R.commonRows (R.seriesOf (stagesOf plan) cells) bound «wrong_length» ++ (9 when leb cells position) ∷ []) ⌝ }
+{
+    let number = series_refusal(plan, bound, cells, wrong_length);
+    if number != 0 {
+        return number;
+    }
+    if cells <= position {
+        return 9;
+    }
+    0
 }
 
 // The size of a number, also of the lowest, which no i64 has with the other sign.

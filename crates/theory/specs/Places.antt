@@ -1,17 +1,21 @@
 -- The first place where a test is true, and the row that answers with it.
--- Laws: firstWhere-ext, firstWhere-none, firstWhere-is, firstWhere-before, firstWhere-at; none-next (a loop's step);
--- rowAt-ext, rowAt-on, rowAt-off, rowAt-none, rowAt-answer.
-use mathlib.Core.Path.{_≡_, refl, ap}
+--   picked start end t   the test t, from start up to end alone
+--   Clear t i            t is false before i
+-- Laws: firstWhere-ext, firstWhere-none, firstWhere-is, firstWhere-before, firstWhere-at; clear-next;
+-- rowAt-ext, rowAt-on, rowAt-off, rowAt-none, rowAt-answer;
+-- walk-start, walk-next, walk-found, walk-done (a loop from start up to end that answers where t is true).
+use mathlib.Core.Path.{_≡_, refl, sym, ap}
 use mathlib.Core.Logic.{_⊎_, inl, inr}
-use mathlib.Core.Bool.{Bool, true, false, cond}
+use mathlib.Core.Bool.{Bool, true, false, cond, _&&_, and-false}
 use mathlib.Core.List.{List, [], _∷_}
-use Prim.Native.Nat.{ℕ, zero, suc, _+_, _<_}
+use Prim.Native.Nat.{ℕ, zero, suc, _+_, _≤_, _<_}
 use native.Mathlib.Decide.{decLt}
 use native.Mathlib.Omega.{arith}
 use lib.Dec.{ltb}
 use borrow.Author.Tests.{ltb-true, ltb-false, le-ltb, lt-ltb}
-use Rattle.meaning.specs.Refusals.{Answer, Row, firstOf, firstWhere, rowAt}
-use Rattle.theory.specs.Refusals.{done}
+use Rattle.meaning.specs.Refusals.{Answer, Row, firstOf, firstWhere, rowAt, within}
+use Rattle.theory.specs.Refusals.{done, off-done}
+use Rattle.theory.specs.Tests.{within-yes, within-before, within-behind}
 
 pub firstWhere-ext : (N : ℕ) {t u : ℕ → Bool} → ((i : ℕ) → i < N → t i ≡ u i) → firstWhere N t ≡ firstWhere N u
 unfolding firstWhere
@@ -48,9 +52,11 @@ firstWhere-at (suc N) t l = go (t 0) refl (firstWhere-at N (λ i. t (suc i))) l
     go true h k l = h
     go false h k l = k (omega arith)
 
--- a test that fails up to i, and at i
-pub none-next : {t : ℕ → Bool} {i : ℕ} → ((j : ℕ) → j < i → t j ≡ false) → t i ≡ false → (j : ℕ) → j < i + 1 → t j ≡ false
-none-next {t} {i} h e j l = go (decLt j i)
+abbrev pub Clear : (ℕ → Bool) → ℕ → Type 0
+Clear t i = (j : ℕ) → j < i → t j ≡ false
+
+pub clear-next : {t : ℕ → Bool} {i : ℕ} → Clear t i → t i ≡ false → Clear t (i + 1)
+clear-next {t} {i} h e j l = go (decLt j i)
   where
     go : Dec (j < i) → t j ≡ false
     go (yes m) = h j m
@@ -81,3 +87,24 @@ module _ (n N : ℕ) where
       go : (b : Bool) → ltb (firstWhere N t) N ≡ b → a ≡ cond b (record { number = n; position = firstWhere N t }) done → (a ≡ done) ⊎ ((a .number ≡ n) × (a .position < N) × (t (a .position) ≡ true) × ((j : ℕ) → j < a .position → t j ≡ false))
       go true h e = inr (rw e (refl, ltb-true _ _ h, firstWhere-at N t (ltb-true _ _ h), λ j l. firstWhere-before N j t l))
       go false h e = inl e
+
+-- ---- a loop over some of the places
+abbrev pub picked : ℕ → ℕ → (ℕ → Bool) → ℕ → Bool
+picked start end t i = within start end i && t i
+
+module _ (start end : ℕ) (t : ℕ → Bool) where
+  pub walk-start : Clear (picked start end t) start
+  walk-start j l = rw (within-before start end j l)
+
+  pub walk-next : {i : ℕ} → Clear (picked start end t) i → t i ≡ false → Clear (picked start end t) (i + 1)
+  walk-next {i} h e = clear-next {t = picked start end t} h (rw e (and-false (within start end i)))
+
+  pub walk-found : (n N i : ℕ) → start ≤ i → i < end → end ≤ N → t i ≡ true → Clear (picked start end t) i → record { number = n; position = i } ≡ firstOf (rowAt n N (picked start end t) ∷ [])
+  walk-found n N i l m k e h = sym (rowAt-on n N i {t = picked start end t} (omega arith) (rw (within-yes start end i l m, e)) h [])
+
+  pub walk-done : (n N i : ℕ) → end ≤ i → Clear (picked start end t) i → done ≡ firstOf (rowAt n N (picked start end t) ∷ [])
+  walk-done n N i l h = sym (off-done _ (rowAt-off n N {t = picked start end t} (λ j m. none j (decLt j i)), tt))
+    where
+      none : (j : ℕ) → Dec (j < i) → picked start end t j ≡ false
+      none j (yes m) = h j m
+      none j (no m) = rw (within-behind start end j (omega arith))

@@ -1,14 +1,14 @@
 -- Tests by what they test, and joined.
--- Laws: or-no, no-or; and-yes, yes-and (both pass); some-one, some-replicate; outside-no, no-outside; differs-no, no-differs.
+-- Laws: or-no, no-or; and-yes, yes-and (both pass); some-one, some-replicate; outside-no, no-outside; differs-no, no-differs; within-yes, within-before, within-behind.
 use mathlib.Core.Path.{_≡_, refl, sym, ap}
-use mathlib.Core.Bool.{Bool, true, false, not, _&&_, _||_, true≢false, or-false}
+use mathlib.Core.Bool.{Bool, true, false, not, _&&_, _||_, true≢false, or-false, and-false}
 use mathlib.Core.List.{[], _∷_}
 use Prim.Native.Nat.{ℕ, zero, suc, _≤_, _<_}
 use native.Mathlib.Omega.{arith}
-use lib.Dec.{ltb, eqb}
+use lib.Dec.{leb, ltb, eqb}
 use lib.ListN.{replicate}
-use borrow.Author.Tests.{ltb-false, le-ltb, eqb-true, eq-eqb}
-use Rattle.meaning.specs.Refusals.{some, outside, differs}
+use borrow.Author.Tests.{ltb-false, lt-ltb, le-ltb, lt-leb, le-leb, eqb-true, eq-eqb}
+use Rattle.meaning.specs.Refusals.{some, outside, differs, within}
 
 pub or-no : (a b : Bool) → (a || b) ≡ false → (a ≡ false) × (b ≡ false)
 or-no false b e = (refl, e)
@@ -53,3 +53,12 @@ differs-no n asked e = eqb-true n asked (not-not (eqb n asked) e)
 
 pub no-differs : {n asked : ℕ} → n ≡ asked → differs n asked ≡ false
 no-differs {n} {asked} e = ap not (eq-eqb n asked e)
+
+pub within-yes : (start end i : ℕ) → start ≤ i → i < end → within start end i ≡ true
+within-yes start end i h k = rw (le-leb start i h, lt-ltb i end k)
+
+pub within-before : (start end i : ℕ) → i < start → within start end i ≡ false
+within-before start end i h = rw (lt-leb start i h)
+
+pub within-behind : (start end i : ℕ) → end ≤ i → within start end i ≡ false
+within-behind start end i h = rw (le-ltb i end h, and-false (leb start i))
