@@ -1,12 +1,13 @@
 -- The rows of the table of numbers say the bounds: a call is done exactly where they hold.
 -- Laws: plan-rows (rows 1 to 4 of K equal stages, by the plan's numbers); plan-allowed, allowed-plan (rows 1 to 4), stage-allowed, allowed-stages (of K equal stages);
--- length-allowed, allowed-length (rows 1 to 8 of a series); series-allowed, allowed-series (smoothing one), series-position, series-no-position;
+-- length-allowed, allowed-length (rows 1 to 8 of a series), length-accepted; series-allowed, allowed-series (smoothing one), series-position, series-no-position;
 -- divisor-allowed; accepted-divisor, accepted-reach, divisor-accepted, no-divisor, no-reach (a plan's own numbers).
 use mathlib.Core.Path.{_≡_, refl, sym, _∙_, ap}
 use mathlib.Core.Logic.{_⊎_, inl, inr}
 use mathlib.Core.Bool.{Bool, true, false, _||_}
 use mathlib.Core.List.{List, [], _∷_}
 use Prim.Native.Nat.{ℕ, zero, suc, _<_}
+use native.Mathlib.Nat.{mul-le-mul-right}
 use native.Mathlib.Decide.{ℕ-discrete}
 use native.Mathlib.Omega.{arith}
 use lib.Dec.{leb, ltb}
@@ -105,6 +106,10 @@ module _ (ss : List Stage) (M N : ℕ) {wrong : Bool} where
   pub allowed-length : AllowedLength ss M N → wrong ≡ false → Off (commonRows (seriesOf ss N) M wrong)
   unfolding sizeRows
   allowed-length ok e = off-append (planRows (ss ∷ [])) _ (allowed-plan ss (ok .plan)) (no-outside (ok .bound .0) (ok .bound .1), (le-ltb _ _ (ok .product), (no-outside (ok .count .0) (ok .count .1), (e, tt))))
+
+-- a plan that is accepted under this bound
+pub length-accepted : {ss : List Stage} {M N : ℕ} → AllowedLength ss M N → AcceptedPlan ss
+length-accepted {ss} ok = record { plan = ok .plan; divides = omega (arith, ok .product, mul-le-mul-right (divisor ss) (ok .bound .0)) }
 
 -- ---- smoothing a series
 module _ (ss : List Stage) (M : ℕ) (f : List ℤ) (nr nw : ℕ) where

@@ -4,7 +4,7 @@
 --   Unplaced m rows   every row has position 0 and another number than m
 --   Off rows          no row applies
 --   done              the answer 0 with position 0
--- Laws: first-on (the first row applies), first-applies (the answer is that of a row that applies), first-lowest (where the numbers rise, of the lowest), first-unplaced;
+-- Laws: first-on, first-off (the first row applies, or not), first-applies (the answer is that of a row that applies), first-lowest (where the numbers rise, of the lowest), first-unplaced;
 -- done-off, off-done, done-none, none-done (it is 0 exactly where none applies); off-append, append-off; refused-first, done-rest (rows in two parts);
 -- ifDone-done, ifDone-refused; plan-numbered, common-numbered.
 use mathlib.Core.Path.{_≡_, refl, sym, _∙_, ap}
@@ -57,6 +57,10 @@ split-lt m n b t = go (ltb m n) refl t
 pub first-on : (row : Row) (rows : List Row) → row .applies ≡ true → firstOf (row ∷ rows) ≡ row .answer
 unfolding firstOf
 first-on row rows h = rw h
+
+pub first-off : (row : Row) (rows : List Row) → row .applies ≡ false → firstOf (row ∷ rows) ≡ firstOf rows
+unfolding firstOf
+first-off row rows h = rw h
 
 pub off-done : (rows : List Row) → Off rows → firstOf rows ≡ done
 unfolding firstOf
