@@ -6,17 +6,20 @@
 --   Mirrorable r xs  room for every window of radius up to r
 --   Stageable p xs n   one stage more of p from xs into n cells: as many cells, and room for every sum
 --   Ready p nd no    an accepted plan, and as many cells as it has taps or more, in both slices
+-- Laws: held-nonneg (no tap is negative).
 use Prim.Native.Nat.{ℕ, _+_, _*_, _≤_, _<_}
 use mathlib.Core.Path.{_≡_}
 use mathlib.Core.List.{List}
 use lib.ListN.{length}
 use lib.IntN.{ℤ, pos, natAbs}
+use lib.Signed.{_≤ℤ_}
 use Rattle.meaning.specs.Limits.{maxResult}
 use Rattle.meaning.specs.Extension.{at}
 use Rattle.meaning.specs.Kernel.{Stage, kernel, reach, tapSum, passAt}
 use Rattle.meaning.specs.Smoothing.{listOf}
 use Rattle.meaning.specs.Bounds.{AcceptedPlan}
 use Rattle.theory.specs.Lists.{Sized}
+use Rattle.theory.specs.Kernel.{kernel-nonneg}
 use Rattle.plan.specs.declared.Plan.{Plan}
 use Rattle.plan.specs.Structs.{stageOf, stagesOf}
 use Rattle.plan.specs.Tested.{Tested}
@@ -32,6 +35,9 @@ tapsOf L ss = listOf L (λ m. kernel ss (pos m))
 
 pub record Held (ss : List Stage) (xs : List ℤ) : Type 0 where
   pub tap : (m : ℕ) → at xs m ≡ kernel ss (pos m)
+
+pub held-nonneg : {ss : List Stage} {xs : List ℤ} → Held ss xs → (m : ℕ) → pos 0 ≤ℤ at xs m
+held-nonneg {ss} held m = rw (held .tap m) (kernel-nonneg ss (pos m))
 
 pub record Mirrorable (r : ℕ) (xs : List ℤ) : Type 0 where
   pub largest : ℕ
