@@ -6,20 +6,26 @@
 --   countIn d start end    how many change: all from start up to end, or none where d is 0
 --   Gainable xs N p d      room for every weight and every gain
 --   Writable               room for every result that is written
-use Prim.Native.Nat.{ℕ, _*_, _-_, _^_, _≤_, _<_}
+-- Laws: gain-weighable, gain-fits, sum-fits; length-gainedIn, gained-inside, gained-before, gained-behind.
+use Prim.Native.Nat.{ℕ, _*_, _-_, _≤_, _<_}
 use mathlib.Core.Path.{_≡_}
 use mathlib.Core.Bool.{Bool, cond, _||_}
 use mathlib.Core.List.{List}
+use native.Mathlib.Omega.{arith}
 use lib.Dec.{eqb}
 use lib.ListN.{length}
 use lib.IntN.{ℤ, pos, natAbs, _+ℤ_, _*ℤ_}
 use lib.Signed.{_≤ℤ_}
-use Rattle.algebra.specs.Size.{Abs}
+use mir.Syntax.{w64}
+use mir.Val.{SFits}
+use Rattle.algebra.specs.Size.{Abs, abs-+, fits-abs}
 use Rattle.meaning.specs.Limits.{maxResult, maxLength}
 use Rattle.meaning.specs.Extension.{at}
 use Rattle.meaning.specs.Smoothing.{listOf}
 use Rattle.meaning.specs.Refusals.{within, above}
-use Rattle.taps.specs.Weigh.{weightIn}
+use Rattle.theory.specs.Lists.{length-listOf, at-listOf}
+use Rattle.theory.specs.Tests.{within-yes, within-before, within-behind}
+use Rattle.taps.specs.Weigh.{weightIn, Weighable}
 
 unfoldable pub gainIn : List ℤ → ℕ → ℕ → ℤ → ℕ → ℤ
 gainIn xs N p d n = d *ℤ weightIn xs N n p
@@ -44,6 +50,38 @@ pub record Gainable (xs : List ℤ) (N p : ℕ) (d : ℤ) : Type 0 where
   pub gains : (n : ℕ) → n < N → Abs (gainIn xs N p d n) (2 * maxResult)
 
 pub record Writable (xs : List ℤ) (p : ℕ) (d : ℤ) (r : List ℤ) (start end : ℕ) : Type 0 where
+  pub order : start ≤ end
   pub inside : end ≤ length r
   pub gainable : Gainable xs (length r) p d
   pub fits : (n : ℕ) → start ≤ n → n < end → Abs (movedIn xs p d r n) maxResult
+
+-- ---- one gain
+module _ {xs : List ℤ} {N p : ℕ} {d : ℤ} (h : Gainable xs N p d) {n : ℕ} (l : n < N) where
+  pub gain-weighable : Weighable xs N n p
+  gain-weighable = record { few = h .few; result = l; sample = h .sample; nonneg = h .nonneg; size = h .weights n l }
+
+  pub gain-fits : SFits w64 (d *ℤ weightIn xs N n p)
+  unfolding gainIn
+  gain-fits = fits-abs (h .gains n l) (omega arith)
+
+pub sum-fits : (L : ℕ) (old g : ℤ) → L ≤ maxResult → natAbs old ≤ L → natAbs g ≤ 2 * maxResult → SFits w64 (old +ℤ g)
+sum-fits L old g l h k = fits-abs (abs-+ {a = old} {b = g} (record { bound = h }) (record { bound = k })) (omega arith)
+
+-- ---- the results with their gains
+module _ (xs : List ℤ) (p : ℕ) (d : ℤ) (r : List ℤ) (start end : ℕ) where
+  pub length-gainedIn : length (gainedIn xs p d r start end) ≡ length r
+  unfolding gainedIn
+  length-gainedIn = length-listOf (length r) _
+
+  at-gainedIn : (n : ℕ) → n < length r → at (gainedIn xs p d r start end) n ≡ cond (within start end n) (movedIn xs p d r n) (at r n)
+  unfolding gainedIn
+  at-gainedIn n l = at-listOf (length r) _ n l
+
+  pub gained-inside : (n : ℕ) → n < length r → start ≤ n → n < end → movedIn xs p d r n ≡ at (gainedIn xs p d r start end) n
+  gained-inside n l h k = rw (at-gainedIn n l, within-yes start end n h k)
+
+  pub gained-before : (n : ℕ) → n < length r → n < start → at r n ≡ at (gainedIn xs p d r start end) n
+  gained-before n l h = rw (at-gainedIn n l, within-before start end n h)
+
+  pub gained-behind : (n : ℕ) → n < length r → end ≤ n → at r n ≡ at (gainedIn xs p d r start end) n
+  gained-behind n l h = rw (at-gainedIn n l, within-behind start end n h)

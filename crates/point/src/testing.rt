@@ -18,16 +18,10 @@ pub(crate) fn refusal(
 {
     let n = samples.len();
     let wrong_length = work != plan::inner::edit_room(n);
-    let number = plan::inner::series_refusal(plan, bound, n, wrong_length);
+    let number = plan::inner::position_refusal(plan, bound, n, wrong_length, position);
     if number != 0 {
         return Answer {
             number,
-            position: 0,
-        };
-    }
-    if n <= position {
-        return Answer {
-            number: 9,
             position: 0,
         };
     }

@@ -1,11 +1,15 @@
--- A loop that writes a list from the front, towards a list t of the same length.
--- Laws: fill-next (one element more), fill-done (all of them).
+-- A loop that writes a list towards a list t of the same length: from the front, or from some place on.
+--   Filled t r d n   d is r with the elements of t up to n
+-- Laws: fill-next (one element more), fill-done (all of them);
+-- filled-start, filled-next, filled-done (where t differs from r only in the places that are written).
 use Prim.Native.Nat.{ℕ, _+_, _≤_, _<_}
-use mathlib.Core.Path.{_≡_, sym, _∙_}
+use mathlib.Core.Path.{_≡_, refl, sym, _∙_, ap}
 use mathlib.Core.List.{List}
+use native.Mathlib.Decide.{ℕ-discrete, decLt}
 use native.Mathlib.Numerals.{add-one}
-use lib.ListN.{length, take, set}
-use lib.Seq.{take-suc, take-suc-set, take-all}
+use native.Mathlib.Omega.{arith}
+use lib.ListN.{length, take, set, length-set}
+use lib.Seq.{take-suc, take-suc-set, take-all, ext-getD, getD-set-same, getD-set-other}
 use lib.IntN.{ℤ, pos}
 use Rattle.meaning.specs.Extension.{at}
 
@@ -15,3 +19,29 @@ module _ (t d : List ℤ) (n : ℕ) (e : take n d ≡ take n t) where
 
   pub fill-done : length d ≤ n → length t ≤ n → d ≡ t
   fill-done l m = sym (take-all n d l) ∙ e ∙ take-all n t m
+
+pub record Filled (t r d : List ℤ) (n : ℕ) : Type 0 where
+  pub same : length d ≡ length r
+  pub front : (i : ℕ) → i < n → at d i ≡ at t i
+  pub rest : (i : ℕ) → n ≤ i → at d i ≡ at r i
+
+pub filled-start : {t r : List ℤ} {n : ℕ} → ((i : ℕ) → i < n → at r i ≡ at t i) → Filled t r r n
+filled-start h = record { same = refl; front = h; rest = λ i l. refl }
+
+pub filled-next : {t r d : List ℤ} {n : ℕ} → Filled t r d n → n < length r → {v : ℤ} → v ≡ at t n → Filled t r (set d n v) (n + 1)
+filled-next {t} {d} {n} h l {v} e = record {
+  same = length-set d n v ∙ h .same;
+  front = λ i k. go i (ℕ-discrete i n) k;
+  rest = λ i k. getD-set-other d n i v (pos 0) (λ q. omega arith) ∙ h .rest i (omega arith);
+}
+  where
+    go : (i : ℕ) → Dec (i ≡ n) → i < n + 1 → at (set d n v) i ≡ at t i
+    go i (yes q) k = ap (at (set d n v)) q ∙ getD-set-same d n v (pos 0) (omega (arith, h .same)) ∙ e ∙ ap (at t) (sym q)
+    go i (no q) k = getD-set-other d n i v (pos 0) q ∙ h .front i (omega arith)
+
+pub filled-done : {t r d : List ℤ} {n : ℕ} → Filled t r d n → length t ≡ length r → ((i : ℕ) → n ≤ i → i < length r → at r i ≡ at t i) → d ≡ t
+filled-done {t} {r} {d} {n} h e k = ext-getD (pos 0) d t (h .same ∙ sym e) (λ i l. go i (decLt i n) (omega (arith, h .same)))
+  where
+    go : (i : ℕ) → Dec (i < n) → i < length r → at d i ≡ at t i
+    go i (yes q) l = h .front i q
+    go i (no q) l = h .rest i (omega arith) ∙ k i (omega arith) l
