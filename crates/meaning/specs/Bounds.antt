@@ -5,15 +5,21 @@
 --   AcceptedPlan ss           a plan that calls accept under some bound
 --   AllowedLength ss M N      a plan, a bound M and a length N
 --   AllowedSeries ss M f nr nw   those of smoothing the samples f, with nr results and nw cells of work
---   FirstAbove M f i          sample i is the first of f with size above M
+--   AllowedEdit φ ss M p v f r nw   of an edit that sets sample p of f to v, with the stored results r and nw cells of work
+--   AllowedPoint ss M n f nw  of the point at n of the samples f, with nw cells of work
+--   FirstAt N P i             i is the first of 0 .. N - 1 with the property P
+--   TooLarge φ ss L p d r n   result n is within reach of p, and has a size above L, or would get one where sample p changes by d
 use Prim.Native.Nat.{ℕ, _*_, _≤_, _<_}
 use mathlib.Core.Path.{_≡_}
+use mathlib.Core.Logic.{_⊎_}
 use mathlib.Core.List.{List, [], _∷_}
 use lib.ListN.{length}
-use lib.IntN.{ℤ, natAbs}
+use lib.IntN.{ℤ, pos, natAbs, _+ℤ_, _-ℤ_, _*ℤ_}
 use Rattle.meaning.specs.Limits.{least, maxPasses, maxRadius, maxInner, maxBound, maxResult, maxLength}
-use Rattle.meaning.specs.Extension.{at}
-use Rattle.meaning.specs.Kernel.{Stage, divisor}
+use Rattle.meaning.specs.Extension.{at, IndexMap}
+use Rattle.meaning.specs.Kernel.{Stage, reach, divisor}
+use Rattle.meaning.specs.Smoothing.{weight, apart}
+use Rattle.meaning.specs.Calls.{editRoom}
 
 pub record AllowedStage (s : Stage) : Type 0 where
   pub radius : s .radius ≤ maxRadius
@@ -44,7 +50,28 @@ pub record AllowedSeries (ss : List Stage) (M : ℕ) (f : List ℤ) (nr nw : ℕ
   pub work : nw ≡ length f
   pub samples : (i : ℕ) → i < length f → natAbs (at f i) ≤ M
 
-pub record FirstAbove (M : ℕ) (f : List ℤ) (i : ℕ) : Type 0 where
-  pub within : i < length f
-  pub above : M < natAbs (at f i)
-  pub before : (j : ℕ) → j < i → natAbs (at f j) ≤ M
+-- the change is the new value less the old
+pub record AllowedEdit (φ : IndexMap) (ss : List Stage) (M p : ℕ) (v : ℤ) (f r : List ℤ) (nw : ℕ) : Type 0 where
+  pub common : AllowedLength ss M (length f)
+  pub results : length r ≡ length f
+  pub work : nw ≡ editRoom ss (length f)
+  pub position : p < length f
+  pub value : natAbs v ≤ M
+  pub old : natAbs (at f p) ≤ M
+  pub before : (n : ℕ) → n < length f → apart n p ≤ reach ss → natAbs (at r n) ≤ M * divisor ss
+  pub after : (n : ℕ) → n < length f → apart n p ≤ reach ss → natAbs (at r n +ℤ (v -ℤ at f p) *ℤ weight φ ss (length f) (pos n) p) ≤ M * divisor ss
+
+pub record AllowedPoint (ss : List Stage) (M n : ℕ) (f : List ℤ) (nw : ℕ) : Type 0 where
+  pub common : AllowedLength ss M (length f)
+  pub work : nw ≡ editRoom ss (length f)
+  pub position : n < length f
+  pub samples : (i : ℕ) → i < length f → apart i n ≤ reach ss → natAbs (at f i) ≤ M
+
+-- ---- positions
+pub record FirstAt (N : ℕ) (P : ℕ → Type 0) (i : ℕ) : Type 0 where
+  pub within : i < N
+  pub here : P i
+  pub before : (j : ℕ) → j < i → P j → ⊥
+
+abbrev pub TooLarge : IndexMap → List Stage → ℕ → ℕ → ℤ → List ℤ → ℕ → Type 0
+TooLarge φ ss L p d r n = (apart n p ≤ reach ss) × ((L < natAbs (at r n)) ⊎ (L < natAbs (at r n +ℤ d *ℤ weight φ ss (length r) (pos n) p)))

@@ -23,7 +23,6 @@ use Prim.Native.Nat.{ℕ, _*_, _/_, _^_, _≤_, _<_}
 use mathlib.Core.Path.{_≡_, refl, sym, ap, _∙_, subst}
 use mathlib.Core.Logic.{_⊎_}
 use mathlib.Core.List.{List}
-use native.Mathlib.Decide.{decLt}
 use native.Mathlib.Omega.{arith}
 use lib.ListN.{length}
 use lib.IntN.{ℤ}
@@ -229,11 +228,7 @@ module _ (c : WriteCall) where
   done-write l m e = number-is ∙ ap (λ (x : meant.Answer). x .number) (off-done (rows c) (no-outside l m, (no-differs e, tt)))
 
   pub write-position : c .answered .position ≡ 0
-  write-position = ap (λ (x : meant.Answer). x .position) answer-is ∙ go (decLt 0 (firstOf (rows c) .number))
-    where
-      go : Dec (0 < firstOf (rows c) .number) → firstOf (rows c) .position ≡ 0
-      go (yes l) = first-unplaced 0 (rows c) tt (λ z. omega arith) .0
-      go (no l) = ap (λ (x : meant.Answer). x .position) (off-done (rows c) (done-off (rows c) tt (omega arith)))
+  write-position = ap (λ (x : meant.Answer). x .position) answer-is ∙ first-unplaced 9 (rows c) tt
 
   pub write-unchanged : (c .answered .number ≡ 0 → ⊥) → roomLeft c ≡ room c
   unfolding writeRecord

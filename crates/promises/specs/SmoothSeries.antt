@@ -14,7 +14,7 @@ use Prim.Native.Nat.{ℕ, _+_, _*_, _^_, _≤_, _<_}
 use mathlib.Core.Path.{_≡_, sym, ap, _∙_}
 use mathlib.Core.List.{List}
 use lib.ListN.{length}
-use lib.IntN.{ℤ, pos, _-ℤ_, _*ℤ_}
+use lib.IntN.{ℤ, pos, natAbs, _-ℤ_, _*ℤ_}
 use contract.Lifetimes.{Lfts}
 use denote.Ref.{now}
 use denote.Triple.Clauses.{AtExit}
@@ -26,7 +26,7 @@ use Rattle.meaning.specs.Smoothing.{convolved, result, results}
 use Rattle.meaning.specs.Refusals as meant
 use Rattle.meaning.specs.Refusals.{Row, firstOf, Applies, rowAt, planRows, sizeRows, seriesOf, zeros}
 use Rattle.meaning.specs.Calls.{smoothRows, smoothed}
-use Rattle.meaning.specs.Bounds.{AllowedSeries, FirstAbove}
+use Rattle.meaning.specs.Bounds.{AllowedSeries, FirstAt}
 use Rattle.theory.specs.Convolution.{kernel-sum}
 use Rattle.theory.specs.Stages.{divisor-plan}
 use Rattle.theory.specs.Passes.{length-results, at-results}
@@ -94,7 +94,7 @@ module _ (κs : Lfts 3) (a : Dens κs kinds.ps) (r : resT kinds.r κs .Denot) (s
     pub done-exactly : (number ≡ 0 → (n : ℕ) → Applies n (rows call) → ⊥) × (((n : ℕ) → Applies n (rows call) → ⊥) → number ≡ 0)
     done-exactly = rw number-is (λ e n k. done-none (rows call) (numbered call) e k, none-done (rows call))
 
-    pub position-first : number ≡ 11 → FirstAbove (call .bound) (call .samples) (call .answer .position)
+    pub position-first : number ≡ 11 → FirstAt (length (call .samples)) (λ i. call .bound < natAbs (at (call .samples) i)) (call .answer .position)
     position-first e = series-position (stagesOf (call .plan)) (call .bound) (call .samples) (length (call .results)) (length (call .work)) answer-is e
 
     pub position-other : (number ≡ 11 → ⊥) → call .answer .position ≡ 0

@@ -3,7 +3,6 @@
 -- length-allowed, allowed-length (rows 1 to 8 of a series), length-accepted; series-allowed, allowed-series (smoothing one), series-position, series-no-position;
 -- divisor-allowed; accepted-divisor, accepted-reach, divisor-accepted, no-divisor, no-reach (a plan's own numbers).
 use mathlib.Core.Path.{_≡_, refl, sym, _∙_, ap}
-use mathlib.Core.Logic.{_⊎_, inl, inr}
 use mathlib.Core.Bool.{Bool, true, false, _||_}
 use mathlib.Core.List.{List, [], _∷_}
 use Prim.Native.Nat.{ℕ, zero, suc, _<_}
@@ -12,17 +11,17 @@ use native.Mathlib.Decide.{ℕ-discrete}
 use native.Mathlib.Omega.{arith}
 use lib.Dec.{leb, ltb}
 use lib.ListN.{length, replicate, length-replicate}
-use lib.IntN.{ℤ}
-use borrow.Author.Tests.{ltb-true, ltb-false, leb-false, le-ltb, lt-leb}
+use lib.IntN.{ℤ, natAbs}
+use borrow.Author.Tests.{ltb-true, ltb-false, leb-false, lt-ltb, le-ltb, lt-leb}
 use Rattle.meaning.specs.Limits.{least, maxPasses, maxRadius, maxInner}
 use Rattle.meaning.specs.Extension.{at}
 use Rattle.meaning.specs.Kernel.{Stage, plan, reach, divisor}
-use Rattle.meaning.specs.Refusals.{Answer, Row, _when_, firstOf, rowAt, some, outside, differs, above, seriesOf, planRows, sizeRows, commonRows, ownRows, planDivisor, planReach}
+use Rattle.meaning.specs.Refusals.{Answer, Row, _when_, firstOf, rowAt, some, outside, differs, seriesOf, planRows, sizeRows, commonRows, ownRows, planDivisor, planReach}
 use Rattle.meaning.specs.Calls.{sampleRow, smoothRows}
-use Rattle.meaning.specs.Bounds.{AllowedStage, AllowedStages, AllowedPlan, AcceptedPlan, AllowedLength, AllowedSeries, FirstAbove}
+use Rattle.meaning.specs.Bounds.{AllowedStage, AllowedStages, AllowedPlan, AcceptedPlan, AllowedLength, AllowedSeries, FirstAt}
 use Rattle.theory.specs.Stages.{PositiveInner, none, _and_, divisor-positive}
-use Rattle.theory.specs.Refusals.{done, Off, Numbered, Unplaced, done-off, off-done, first-unplaced, refused-first, done-rest, off-append, append-off, common-numbered, ifDone-done, ifDone-refused}
-use Rattle.theory.specs.Places.{rowAt-off, rowAt-none, rowAt-answer}
+use Rattle.theory.specs.Refusals.{done, Off, Numbered, Unplaced, done-off, off-done, off-append, append-off, ifDone-done, ifDone-refused}
+use Rattle.theory.specs.Places.{rowAt-off, rowAt-none, place-here, place-other, first-map}
 use Rattle.theory.specs.Tests.{some-one, some-replicate, or-no, no-or, outside-no, no-outside, differs-no, no-differs}
 
 number-of : {a b : Answer} → a ≡ b → a .number ≡ b .number
@@ -146,43 +145,18 @@ module _ (ss : List Stage) (M : ℕ) (f : List ℤ) (nr nw : ℕ) where
       let samples : Off (sampleRow M f (λ i. true) ∷ []) = (rowAt-off 11 (length f) (λ i l. le-ltb _ _ (ok .samples i l)), tt) in
       off-done rows (off-append common _ (allowed-length ss M (length f) (ok .common) lengths) samples)
 
-  -- the position of an answer x
-  abbrev Placed : Answer → Type 0
-  Placed x = ((x .number ≡ 11 → ⊥) × (x .position ≡ 0)) ⊎ ((x .number ≡ 11) × FirstAbove M f (x .position))
-
   common-unplaced : Unplaced 11 common
   unfolding planRows sizeRows
   common-unplaced = tt
 
-  placed : {x : Answer} → x ≡ firstOf rows → Placed x
-  unfolding smoothRows
-  placed {x} e = go (ℕ-discrete (firstOf common .number) 0)
-    where
-      alone : (x ≡ done) ⊎ ((x .number ≡ 11) × (x .position < length f) × (above M (at f (x .position)) ≡ true) × ((j : ℕ) → j < x .position → above M (at f j) ≡ false)) → Placed x
-      alone (inl d) = let z : x .number ≡ 0 = number-of d in inl (λ n. omega arith, ap (λ (y : Answer). y .position) d)
-      alone (inr (n, l, t, h)) = inr (n, record { within = l; above = ltb-true _ _ t; before = λ j k. ltb-false _ _ (h j k) })
-
-      go : Dec (firstOf common .number ≡ 0) → Placed x
-      go (yes z) = alone (rowAt-answer 11 (length f) _ (e ∙ sym (done-rest common _ (common-numbered (seriesOf ss (length f)) M wrong) refl z refl)))
-      go (no n) =
-          let same = e ∙ sym (refused-first common _ refl n) in
-          let (p, m) = first-unplaced 11 common common-unplaced n in
-          inl (λ h. m (sym (number-of same) ∙ h), ap (λ (y : Answer). y .position) same ∙ p)
-
   module _ {x : Answer} (e : x ≡ firstOf rows) where
-    pub series-position : x .number ≡ 11 → FirstAbove M f (x .position)
-    series-position n = go (placed e)
-      where
-        go : Placed x → FirstAbove M f (x .position)
-        go (inl (h, p)) = absurd (h n)
-        go (inr (h, p)) = p
+    pub series-position : x .number ≡ 11 → FirstAt (length f) (λ i. M < natAbs (at f i)) (x .position)
+    unfolding smoothRows
+    series-position h = first-map (λ i l k. ltb-true _ _ k) (λ i l k. lt-ltb _ _ k) (place-here 11 (length f) common common-unplaced _ (omega arith) e h)
 
     pub series-no-position : (x .number ≡ 11 → ⊥) → x .position ≡ 0
-    series-no-position n = go (placed e)
-      where
-        go : Placed x → x .position ≡ 0
-        go (inl (h, p)) = p
-        go (inr (h, p)) = absurd (n h)
+    unfolding smoothRows
+    series-no-position h = place-other 11 (length f) common common-unplaced _ (omega arith) e h
 
 -- ---- a plan's own numbers
 positive : (ss : List Stage) → AllowedStages ss → PositiveInner ss

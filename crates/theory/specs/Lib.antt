@@ -12,13 +12,15 @@
 --   Passes       the law: passes are one convolution
 --   Sizes        M times the divisor, after every pass
 --   Slide        a pass by running sums, and how large they grow
+--   Tests        tests by what they test, and joined
 --   Weights      results are linear in the samples
 --   Local        what lies within reach, and nothing else
 --   Images       a weight as strided sums of taps
 --   Picture      rows first or columns first
 --   Refusals     which row answers, and what an answer of 0 says
 --   Places       the first place where a test is true
---   Tests        tests by what they test, and joined
+--   Counts       at how many places a test is true, and how many results changed
+--   Edits        what an edit makes of results, and how many change
 --   Values       a result over the divisor
 --   Encoding     numbers as bytes and as text
 --   Records      the job record: what is written is read, what is read as done was written
@@ -38,13 +40,15 @@ pub mod Moment
 pub mod Passes
 pub mod Sizes
 pub mod Slide
+pub mod Tests
 pub mod Weights
 pub mod Local
 pub mod Images
 pub mod Picture
 pub mod Refusals
 pub mod Places
-pub mod Tests
+pub mod Counts
+pub mod Edits
 pub mod Values
 pub mod Encoding
 pub mod Records

@@ -1,14 +1,14 @@
 -- Lists made of their elements, and how large those are.
 --   Sized M f   no element of f is larger than M; its field `size i` holds past the end too, where f reads as 0
 -- Laws: length-listOf, at-listOf, listOf-ext, listOf-at (a list is that of its elements); at-past;
--- sized (from the elements there are), sized-listOf.
+-- sized (from the elements there are), sized-listOf, sized-set.
 use mathlib.Core.Path.{_≡_, refl, sym, _∙_, ap, ap₂}
 use mathlib.Core.List.{List, _∷_}
 use Prim.Native.Nat.{ℕ, zero, suc, _≤_, _<_}
-use native.Mathlib.Decide.{decLt}
+use native.Mathlib.Decide.{decLt, ℕ-discrete}
 use native.Mathlib.Omega.{arith}
-use lib.ListN.{length, List·getD-eq-default}
-use lib.Seq.{ext-getD}
+use lib.ListN.{length, set, length-set, List·getD-eq-default}
+use lib.Seq.{ext-getD, getD-set-same, getD-set-other}
 use lib.IntN.{ℤ, pos}
 use Rattle.algebra.specs.Size.{Abs}
 use Rattle.meaning.specs.Extension.{at}
@@ -50,3 +50,10 @@ sized {M} f h = record { size = λ i. go i (decLt i (length f)) }
 
 pub sized-listOf : {M : ℕ} (n : ℕ) (g : ℕ → ℤ) → ((i : ℕ) → i < n → Abs (g i) M) → Sized M (listOf n g)
 sized-listOf n g h = sized (listOf n g) (λ i l. rw (at-listOf n g i (omega (arith, length-listOf n g))) (h i (omega (arith, length-listOf n g))))
+
+pub sized-set : {M : ℕ} {f : List ℤ} → Sized M f → (p : ℕ) {v : ℤ} → Abs v M → Sized M (set f p v)
+sized-set {M} {f} h p {v} k = sized (set f p v) (λ i l. go i (omega (arith, length-set f p v)) (ℕ-discrete i p))
+  where
+    go : (i : ℕ) → i < length f → Dec (i ≡ p) → Abs (at (set f p v) i) M
+    go i l (yes e) = rw (e, getD-set-same f p v (pos 0) (omega arith)) k
+    go i l (no e) = rw (getD-set-other f p i v (pos 0) e) (h .size i)

@@ -1,23 +1,26 @@
 -- What a sample moves, and what a result depends on: exactly what lies within reach.
--- Laws: near-yes, near-no, near-true, near-false (the test and the fact); weight-outside, weight-positive;
--- set-outside, set-inside (of a sample set to another value), result-local.
+-- Laws: near-yes, near-no, near-true, near-false (the test and the fact), near-within (as a stretch of indices); weight-outside, weight-positive;
+-- result-local; set-outside, no-gain, set-inside (of a sample set to another value).
 use mathlib.Core.Path.{_≡_, sym, _∙_}
 use mathlib.Core.Logic.{_≢_}
 use mathlib.Core.Bool.{true, false}
 use mathlib.Core.List.{List}
-use Prim.Native.Nat.{ℕ, _≤_, _<_}
-use native.Mathlib.Decide.{decLt}
+use Prim.Native.Nat.{ℕ, _+_, _-_, _≤_, _<_, min}
+use native.Mathlib.Decide.{decLe, decLt}
 use native.Mathlib.Omega.{arith}
+use lib.Dec.{leb, ltb}
 use lib.ListN.{length, set}
 use lib.IntN.{ℤ, pos, natAbs, _+ℤ_, _-ℤ_, _*ℤ_, *ℤ-zero, zero-*ℤ, +ℤ-idr}
 use lib.Signed.{_<ℤ_}
-use borrow.Author.Tests.{le-leb, lt-leb, leb-true, leb-false}
+use borrow.Author.Tests.{le-leb, lt-leb, leb-true, leb-false, lt-ltb, le-ltb}
 use Rattle.algebra.specs.Order.{zarith, of+, of-, nonneg-pos, positive-pos, *ℤ-cancel-r}
 use Rattle.algebra.specs.Size.{natAbs-sub}
 use Rattle.meaning.specs.Extension.{at, IndexMap, ext}
 use Rattle.meaning.specs.Kernel.{Stage, reach, divisor}
 use Rattle.meaning.specs.Smoothing.{result, weight, apart, near}
+use Rattle.meaning.specs.Refusals.{within}
 use Rattle.theory.specs.Folding.{Folding, Nearness}
+use Rattle.theory.specs.Tests.{yes-and, no-and}
 use Rattle.theory.specs.Lists.{at-past}
 use Rattle.theory.specs.Convolution.{convolved-const}
 use Rattle.theory.specs.Stages.{PositiveInner}
@@ -39,6 +42,13 @@ near-true ss n p h = leb-true _ _ h
 pub near-false : (ss : List Stage) (n p : ℕ) → near ss n p ≡ false → reach ss < apart n p
 unfolding near
 near-false ss n p h = leb-false _ _ h
+
+pub near-within : (ss : List Stage) {N n : ℕ} (p : ℕ) → n < N → near ss n p ≡ within (p - reach ss) (min N (p + reach ss + 1)) n
+near-within ss {N} {n} p h = go (decLe (apart n p) (reach ss))
+  where
+    go : Dec (apart n p ≤ reach ss) → near ss n p ≡ within (p - reach ss) (min N (p + reach ss + 1)) n
+    go (yes l) = near-yes ss n p l ∙ sym (yes-and (le-leb (p - reach ss) n (omega arith)) (lt-ltb n (min N (p + reach ss + 1)) (omega arith)))
+    go (no l) = near-no ss n p (omega arith) ∙ sym (no-and (leb (p - reach ss) n) (ltb n (min N (p + reach ss + 1))) (λ k. le-ltb n (min N (p + reach ss + 1)) (omega (arith, leb-true (p - reach ss) n k))))
 
 -- what reads p stands no nearer to n than p does
 pub weight-outside : {φ : IndexMap} → Nearness φ → (ss : List Stage) {N : ℕ} (n p : ℕ) → n < N → reach ss < apart n p → weight φ ss N (pos n) p ≡ pos 0
@@ -67,8 +77,12 @@ result-local {φ} C ss f g e {n} h k = convolved-local ss (pos n) (λ x l. rw (�
 pub set-outside : {φ : IndexMap} → Nearness φ → (ss : List Stage) (f : List ℤ) (n p : ℕ) (v : ℤ) → n < length f → p < length f → reach ss < apart n p → result φ ss (set f p v) (pos n) ≡ result φ ss f (pos n)
 set-outside {φ} C ss f n p v hn hp l = rw (result-set φ ss f p v hp (pos n), weight-outside C ss n p hn l, *ℤ-zero (v -ℤ at f p)) (+ℤ-idr (result φ ss f (pos n)))
 
+-- by a weight above 0 only no change gives no gain
+pub no-gain : (x : ℤ) {d w : ℤ} → pos 0 <ℤ w → x +ℤ d *ℤ w ≡ x → d ≡ pos 0
+no-gain x {d} {w} h e = *ℤ-cancel-r h (omega (zarith, of+ x (d *ℤ w)) ∙ sym (zero-*ℤ w))
+
 pub set-inside : {φ : IndexMap} → Folding φ → {ss : List Stage} → PositiveInner ss → (f : List ℤ) (n p : ℕ) (v : ℤ) → p < length f → apart n p ≤ reach ss → v ≢ at f p → result φ ss (set f p v) (pos n) ≢ result φ ss f (pos n)
-set-inside {φ} F {ss} b f n p v h l d e = d (moved v (at f p) (weight φ ss (length f) (pos n) p) (result φ ss f (pos n)) (weight-positive F b n p h l) (sym (result-set φ ss f p v h (pos n)) ∙ e))
+set-inside {φ} F {ss} b f n p v h l d e = d (same v (at f p) (no-gain (result φ ss f (pos n)) (weight-positive F b n p h l) (sym (result-set φ ss f p v h (pos n)) ∙ e)))
   where
-    moved : (v u w r : ℤ) → pos 0 <ℤ w → r +ℤ (v -ℤ u) *ℤ w ≡ r → v ≡ u
-    moved v u w r h e = let z : v -ℤ u ≡ pos 0 = *ℤ-cancel-r h (omega (zarith, of+ r ((v -ℤ u) *ℤ w)) ∙ sym (zero-*ℤ w)) in omega (zarith, of- v u)
+    same : (v u : ℤ) → v -ℤ u ≡ pos 0 → v ≡ u
+    same v u e = omega (zarith, of- v u)

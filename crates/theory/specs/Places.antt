@@ -2,19 +2,20 @@
 --   picked start end t   the test t, from start up to end alone
 --   Clear t i            t is false before i
 -- Laws: firstWhere-ext, firstWhere-none, firstWhere-is, firstWhere-before, firstWhere-at; clear-next;
--- rowAt-ext, rowAt-on, rowAt-off, rowAt-none, rowAt-answer;
--- walk-start, walk-next, walk-found, walk-done (a loop from start up to end that answers where t is true).
-use mathlib.Core.Path.{_≡_, refl, sym, ap}
-use mathlib.Core.Logic.{_⊎_, inl, inr}
-use mathlib.Core.Bool.{Bool, true, false, cond, _&&_, and-false}
-use mathlib.Core.List.{List, [], _∷_}
+-- rowAt-ext, rowAt-on, rowAt-off, rowAt-none, rowAt-answer; place-here, place-other (of rows whose last one alone has a position);
+-- walk-start, walk-next, walk-found, walk-done (a loop from start up to end that answers where t is true); first-map.
+use mathlib.Core.Path.{_≡_, refl, sym, _∙_, ap}
+use mathlib.Core.Logic.{_⊎_, inl, inr, ⊎-elim}
+use mathlib.Core.Bool.{Bool, true, false, cond, _&&_, and-false, true≢false}
+use mathlib.Core.List.{List, [], _∷_, _++_}
 use Prim.Native.Nat.{ℕ, zero, suc, _+_, _≤_, _<_}
 use native.Mathlib.Decide.{decLt}
 use native.Mathlib.Omega.{arith}
 use lib.Dec.{ltb}
 use borrow.Author.Tests.{ltb-true, ltb-false, le-ltb, lt-ltb}
 use Rattle.meaning.specs.Refusals.{Answer, Row, firstOf, firstWhere, rowAt, within}
-use Rattle.theory.specs.Refusals.{done, off-done}
+use Rattle.meaning.specs.Bounds.{FirstAt}
+use Rattle.theory.specs.Refusals.{done, off-done, Unplaced, first-parts}
 use Rattle.theory.specs.Tests.{within-yes, within-before, within-behind}
 
 pub firstWhere-ext : (N : ℕ) {t u : ℕ → Bool} → ((i : ℕ) → i < N → t i ≡ u i) → firstWhere N t ≡ firstWhere N u
@@ -79,14 +80,29 @@ module _ (n N : ℕ) where
   unfolding rowAt
   rowAt-none t e i l = firstWhere-before N i t (omega (arith, ltb-false (firstWhere N t) N e))
 
-  -- what the answer of that row alone is
-  pub rowAt-answer : (t : ℕ → Bool) {a : Answer} → a ≡ firstOf (rowAt n N t ∷ []) → (a ≡ done) ⊎ ((a .number ≡ n) × (a .position < N) × (t (a .position) ≡ true) × ((j : ℕ) → j < a .position → t j ≡ false))
+  -- the answer is that row's, or that of the rest
+  pub rowAt-answer : (t : ℕ → Bool) (rows : List Row) {a : Answer} → a ≡ firstOf (rowAt n N t ∷ rows) → ((a .number ≡ n) × FirstAt N (λ i. t i ≡ true) (a .position)) ⊎ ((rowAt n N t .applies ≡ false) × (a ≡ firstOf rows))
   unfolding rowAt firstOf
-  rowAt-answer t {a} e = go (ltb (firstWhere N t) N) refl e
+  rowAt-answer t rows {a} e = go (ltb (firstWhere N t) N) refl e
     where
-      go : (b : Bool) → ltb (firstWhere N t) N ≡ b → a ≡ cond b (record { number = n; position = firstWhere N t }) done → (a ≡ done) ⊎ ((a .number ≡ n) × (a .position < N) × (t (a .position) ≡ true) × ((j : ℕ) → j < a .position → t j ≡ false))
-      go true h e = inr (rw e (refl, ltb-true _ _ h, firstWhere-at N t (ltb-true _ _ h), λ j l. firstWhere-before N j t l))
-      go false h e = inl e
+      go : (b : Bool) → ltb (firstWhere N t) N ≡ b → a ≡ cond b (record { number = n; position = firstWhere N t }) (firstOf rows) → ((a .number ≡ n) × FirstAt N (λ i. t i ≡ true) (a .position)) ⊎ ((ltb (firstWhere N t) N ≡ false) × (a ≡ firstOf rows))
+      go true h e = inl (rw e (refl, record { within = ltb-true _ _ h; here = firstWhere-at N t (ltb-true _ _ h); before = λ j l k. true≢false (sym k ∙ firstWhere-before N j t l) }))
+      go false h e = inr (h, e)
+
+  -- of rows that have no position, and then that one
+  module _ (rows : List Row) (u : Unplaced n rows) (t : ℕ → Bool) (l : 0 < n) {a : Answer} (e : a ≡ firstOf (rows ++ rowAt n N t ∷ [])) where
+    placed : ((a .number < n) × (a .position ≡ 0)) ⊎ ((a .number ≡ n) × FirstAt N (λ i. t i ≡ true) (a .position))
+    unfolding firstOf
+    placed = ⊎-elim inl (λ p. ⊎-elim inr (λ q. inl (rw (q .1) (l, refl))) (rowAt-answer t [] (p .1))) (first-parts n rows (rowAt n N t ∷ []) u e)
+
+    pub place-here : a .number ≡ n → FirstAt N (λ i. t i ≡ true) (a .position)
+    place-here h = ⊎-elim (λ p. let no : ⊥ = omega arith in absurd no) (λ p. p .1) placed
+
+    pub place-other : (a .number ≡ n → ⊥) → a .position ≡ 0
+    place-other h = ⊎-elim (λ p. p .1) (λ p. absurd (h (p .0))) placed
+
+pub first-map : {N : ℕ} {P Q : ℕ → Type 0} {i : ℕ} → ((j : ℕ) → j < N → P j → Q j) → ((j : ℕ) → j < N → Q j → P j) → FirstAt N P i → FirstAt N Q i
+first-map to from h = record { within = h .within; here = to _ (h .within) (h .here); before = λ j l k. h .before j l (from j (omega arith) k) }
 
 -- ---- a loop over some of the places
 abbrev pub picked : ℕ → ℕ → (ℕ → Bool) → ℕ → Bool

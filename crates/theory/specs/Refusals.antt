@@ -1,22 +1,24 @@
--- The table of numbers: which row answers, and what an answer of 0 says. The first two conditions are tt of rows that are written down.
+-- The table of numbers: which row answers, and what an answer of 0 says. The first three conditions are tt of rows that are written down.
 --   Numbered rows     no row answers 0
 --   Rising rows       the numbers rise from row to row, from above 0
---   Unplaced m rows   every row has position 0 and another number than m
+--   Unplaced m rows   every row has position 0 and a number below m
 --   Off rows          no row applies
 --   done              the answer 0 with position 0
--- Laws: first-on, first-off (the first row applies, or not), first-applies (the answer is that of a row that applies), first-lowest (where the numbers rise, of the lowest), first-unplaced;
+-- Laws: first-on, first-off (the first row applies, or not), first-applies (the answer is that of a row that applies), first-lowest (where the numbers rise, of the lowest);
+-- first-parts (the answer is that of rows without position, or that of the rest), first-unplaced;
 -- done-off, off-done, done-none, none-done (it is 0 exactly where none applies); off-append, append-off; refused-first, done-rest (rows in two parts);
 -- ifDone-done, ifDone-refused; plan-numbered, common-numbered.
 use mathlib.Core.Path.{_≡_, refl, sym, _∙_, ap}
-use mathlib.Core.Bool.{Bool, true, false, cond, not, _&&_, true≢false}
-use mathlib.Core.List.{List, [], _∷_, _++_}
+use mathlib.Core.Logic.{_⊎_, inl, inr, ⊎-elim, ⊎-map}
+use mathlib.Core.Bool.{Bool, true, false, cond, _&&_, true≢false}
+use mathlib.Core.List.{List, [], _∷_, _++_, append-nil}
 use Prim.Native.Nat.{ℕ, _≤_, _<_}
 use native.Mathlib.Decide.{ℕ-discrete}
 use native.Mathlib.Omega.{arith}
 use lib.Dec.{T, ltb, eqb}
-use borrow.Author.Tests.{ltb-true, eqb-true, eqb-false, eq-eqb, ne-eqb}
+use borrow.Author.Tests.{ltb-true, eqb-true, eq-eqb, ne-eqb}
 use Rattle.meaning.specs.Kernel.{Stage}
-use Rattle.meaning.specs.Refusals.{Answer, Row, firstOf, Applies, here, later, differs, Shape, planRows, sizeRows, commonRows, ifDone}
+use Rattle.meaning.specs.Refusals.{Answer, Row, firstOf, Applies, here, later, Shape, planRows, sizeRows, commonRows, ifDone}
 
 abbrev pub done : Answer
 done = record { number = 0; position = 0 }
@@ -37,7 +39,7 @@ Rising rows = T (risesFrom 0 rows)
 
 abbrev unplaced : ℕ → List Row → Bool
 unplaced m [] = true
-unplaced m (row ∷ rows) = eqb (row .answer .position) 0 && differs (row .answer .number) m && unplaced m rows
+unplaced m (row ∷ rows) = ltb (row .answer .number) m && (eqb (row .answer .position) 0 && unplaced m rows)
 
 abbrev pub Unplaced : ℕ → List Row → Type 0
 Unplaced m rows = T (unplaced m rows)
@@ -47,12 +49,12 @@ Off [] = Unit {0}
 Off (row ∷ rows) = (row .applies ≡ false) × Off rows
 
 -- ---- which row answers
+split : (a b : Bool) → T (a && b) → (a ≡ true) × T b
+split true b t = (refl, t)
+split false b t = absurd t
+
 split-lt : (m n : ℕ) (b : Bool) → T (ltb m n && b) → (m < n) × T b
-split-lt m n b t = go (ltb m n) refl t
-  where
-    go : (s : Bool) → ltb m n ≡ s → T (s && b) → (m < n) × T b
-    go true e t = (ltb-true m n e, t)
-    go false e t = absurd t
+split-lt m n b t = let (h, u) = split (ltb m n) b t in (ltb-true m n h, u)
 
 pub first-on : (row : Row) (rows : List Row) → row .applies ≡ true → firstOf (row ∷ rows) ≡ row .answer
 unfolding firstOf
@@ -103,16 +105,21 @@ pub first-lowest : (rows : List Row) {n : ℕ} → Rising rows → Applies n row
 first-lowest rows t k = lowest-from 0 rows t k .0
 
 -- ---- rows with position 0
-pub first-unplaced : (m : ℕ) (rows : List Row) → Unplaced m rows → (firstOf rows .number ≡ 0 → ⊥) → (firstOf rows .position ≡ 0) × (firstOf rows .number ≡ m → ⊥)
+pub first-parts : (m : ℕ) (rows more : List Row) → Unplaced m rows → {a : Answer} → a ≡ firstOf (rows ++ more) → ((a .number < m) × (a .position ≡ 0)) ⊎ (Off rows × (a ≡ firstOf more))
 unfolding firstOf
-first-unplaced m [] t h = absurd (h refl)
-first-unplaced m (row ∷ rows) t h = go (row .applies) (eqb (row .answer .position) 0) (eqb (row .answer .number) m) refl refl t (first-unplaced m rows) h
+first-parts m [] more t e = inr (tt, e)
+first-parts m (row ∷ rows) more t {a} e =
+    let (l, u) = split-lt (row .answer .number) m (eqb (row .answer .position) 0 && unplaced m rows) t in
+    let (z, v) = split (eqb (row .answer .position) 0) (unplaced m rows) u in
+    go (row .applies) refl (l, eqb-true _ _ z) (first-parts m rows more v) e
   where
-    go : (b p n : Bool) → eqb (row .answer .position) 0 ≡ p → eqb (row .answer .number) m ≡ n → T (p && not n && unplaced m rows) → (Unplaced m rows → (firstOf rows .number ≡ 0 → ⊥) → (firstOf rows .position ≡ 0) × (firstOf rows .number ≡ m → ⊥)) → (cond b (row .answer) (firstOf rows) .number ≡ 0 → ⊥) → (cond b (row .answer) (firstOf rows) .position ≡ 0) × (cond b (row .answer) (firstOf rows) .number ≡ m → ⊥)
-    go true true false e f t k h = (eqb-true _ _ e, eqb-false _ _ f)
-    go false true false e f t k h = k t h
-    go b true true e f t k h = absurd t
-    go b false n e f t k h = absurd t
+    go : (b : Bool) → row .applies ≡ b → (row .answer .number < m) × (row .answer .position ≡ 0) → (a ≡ firstOf (rows ++ more) → ((a .number < m) × (a .position ≡ 0)) ⊎ (Off rows × (a ≡ firstOf more))) → a ≡ cond b (row .answer) (firstOf (rows ++ more)) → ((a .number < m) × (a .position ≡ 0)) ⊎ (((row .applies ≡ false) × Off rows) × (a ≡ firstOf more))
+    go true h p k e = inl (rw e p)
+    go false h p k e = ⊎-map (λ q. q) (λ q. ((h, q .0), q .1)) (k e)
+
+pub first-unplaced : (m : ℕ) (rows : List Row) → Unplaced m rows → firstOf rows .position ≡ 0
+unfolding firstOf
+first-unplaced m rows t = ⊎-elim (λ p. p .1) (λ p. ap (λ (x : Answer). x .position) (p .1)) (first-parts m rows [] t (ap firstOf (sym (append-nil rows))))
 
 -- ---- done exactly where no row applies
 off-none : (rows : List Row) {n : ℕ} → Off rows → Applies n rows → ⊥

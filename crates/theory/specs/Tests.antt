@@ -1,6 +1,7 @@
 -- Tests by what they test, and joined.
--- Laws: or-no, no-or; and-yes, yes-and (both pass); some-one, some-replicate; outside-no, no-outside; differs-no, no-differs; within-yes, within-before, within-behind.
+-- Laws: or-no, no-or (both fail), or-yes, yes-or; and-yes, yes-and (both pass), and-no, no-and (the second fails where the first passes); some-one, some-replicate; outside-no, no-outside; differs-no, no-differs; within-yes, within-before, within-behind.
 use mathlib.Core.Path.{_≡_, refl, sym, ap}
+use mathlib.Core.Logic.{_⊎_, inl, inr}
 use mathlib.Core.Bool.{Bool, true, false, not, _&&_, _||_, true≢false, or-false, and-false}
 use mathlib.Core.List.{[], _∷_}
 use Prim.Native.Nat.{ℕ, zero, suc, _≤_, _<_}
@@ -17,12 +18,29 @@ or-no true b e = absurd (true≢false e)
 pub no-or : {a b : Bool} → a ≡ false → b ≡ false → (a || b) ≡ false
 no-or {a} {b} h k = rw (h, k)
 
+pub or-yes : (a b : Bool) → (a || b) ≡ true → (a ≡ true) ⊎ (b ≡ true)
+or-yes true b e = inl refl
+or-yes false b e = inr e
+
+pub yes-or : (a b : Bool) → (a ≡ true) ⊎ (b ≡ true) → (a || b) ≡ true
+yes-or a b (inl h) = rw h
+yes-or true b (inr h) = refl
+yes-or false b (inr h) = h
+
 pub and-yes : (a b : Bool) → (a && b) ≡ true → (a ≡ true) × (b ≡ true)
 and-yes true b e = (refl, e)
 and-yes false b e = absurd (true≢false (sym e))
 
 pub yes-and : {a b : Bool} → a ≡ true → b ≡ true → (a && b) ≡ true
 yes-and {a} {b} h k = rw (h, k)
+
+pub and-no : (a b : Bool) → (a && b) ≡ false → a ≡ true → b ≡ false
+and-no true b e h = e
+and-no false b e h = absurd (true≢false (sym h))
+
+pub no-and : (a b : Bool) → (a ≡ true → b ≡ false) → (a && b) ≡ false
+no-and true b h = h refl
+no-and false b h = refl
 
 or-same : (b : Bool) → (b || b) ≡ b
 or-same true = refl
