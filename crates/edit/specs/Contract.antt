@@ -1,20 +1,19 @@
 -- What an edit promises.
 --   Gives o a k f r w    the answer a, the count k, and the samples f, results r and work w that the call leaves, are those of the outcome o
 --   frontRows            rows 1 to 11, which need no result
---   resultRow            row 12
 --   Changes ss L p d r a k left   what is said of the results alone: under the limit L and with the change d of sample p, row 12's answer a, the count k, and what is left
 use Prim.Native.Nat.{ℕ}
 use mathlib.Core.Path.{_≡_}
-use mathlib.Core.Bool.{_&&_, _||_}
+use mathlib.Core.Bool.{_||_}
 use mathlib.Core.List.{List, [], _∷_, _++_}
 use lib.Dec.{leb, eqb}
 use lib.ListN.{length}
 use lib.IntN.{ℤ}
-use Rattle.meaning.specs.Extension.{at, fold}
+use Rattle.meaning.specs.Extension.{fold}
 use Rattle.meaning.specs.Kernel.{Stage}
-use Rattle.meaning.specs.Smoothing.{near}
-use Rattle.meaning.specs.Refusals.{Answer, Row, _when_, firstOf, rowAt, differs, above, seriesOf, commonRows, ifDone}
+use Rattle.meaning.specs.Refusals.{Answer, Row, _when_, firstOf, differs, above, seriesOf, commonRows, ifDone}
 use Rattle.meaning.specs.Calls.{Edited, sampleRow, editRoom, gained, changed}
+use Rattle.theory.specs.Edits.{resultRow}
 
 pub record Gives (o : Edited) (a : Answer) (k : ℕ) (f r w : List ℤ) : Type 0 where
   pub answer : a ≡ o .answer
@@ -30,9 +29,6 @@ frontRows ss M p v f nr nw =
     ∷ (10 when above M v)
     ∷ sampleRow M f (λ i. eqb i p)
     ∷ []
-
-unfoldable pub resultRow : List Stage → ℕ → ℕ → List ℤ → List ℤ → Row
-resultRow ss L p r new = rowAt 12 (length r) (λ n. near ss n p && (above L (at r n) || above L (at new n)))
 
 pub record Changes (ss : List Stage) (L p : ℕ) (d : ℤ) (r : List ℤ) (a : Answer) (k : ℕ) (left : List ℤ) : Type 0 where
   pub answer : a ≡ firstOf (resultRow ss L p r (gained fold ss p d r) ∷ [])

@@ -1,33 +1,21 @@
 -- What lies within reach of a place p: from low up to high, high itself left out.
 --   low p R      the first place
 --   high N p R   the place behind the last, of N
--- Laws: span-near (what lies there is what is near), span-one (the place alone).
+-- That what lies there is what is near is near-within, a law of the definitions. Law: span-one (the place alone).
 use Prim.Native.Nat.{ℕ, _+_, _-_, _<_, min}
 use mathlib.Core.Path.{_≡_}
-use mathlib.Core.List.{List}
 use native.Mathlib.Decide.{ℕ-discrete, decLt}
 use native.Mathlib.Omega.{arith}
 use lib.Dec.{eqb}
 use borrow.Author.Tests.{eq-eqb, ne-eqb}
-use Rattle.meaning.specs.Kernel.{Stage, reach}
-use Rattle.meaning.specs.Smoothing.{near}
 use Rattle.meaning.specs.Refusals.{within}
 use Rattle.theory.specs.Tests.{within-yes, within-before, within-behind}
-use Rattle.theory.specs.Local.{near-yes, near-no}
 
 abbrev pub low : ℕ → ℕ → ℕ
 low p R = p - R
 
 abbrev pub high : ℕ → ℕ → ℕ → ℕ
 high N p R = min N (p + R + 1)
-
-pub span-near : (ss : List Stage) (N p i : ℕ) → i < N → within (low p (reach ss)) (high N p (reach ss)) i ≡ near ss i p
-span-near ss N p i h = go (decLt i (low p (reach ss))) (decLt i (high N p (reach ss)))
-  where
-    go : Dec (i < low p (reach ss)) → Dec (i < high N p (reach ss)) → within (low p (reach ss)) (high N p (reach ss)) i ≡ near ss i p
-    go (yes l) d = rw (within-before (low p (reach ss)) (high N p (reach ss)) i l, near-no ss i p (omega arith))
-    go (no l) (yes k) = rw (within-yes (low p (reach ss)) (high N p (reach ss)) i (omega arith) k, near-yes ss i p (omega arith))
-    go (no l) (no k) = rw (within-behind (low p (reach ss)) (high N p (reach ss)) i (omega arith), near-no ss i p (omega arith))
 
 pub span-one : (p i : ℕ) → within p (p + 1) i ≡ eqb i p
 span-one p i = go (ℕ-discrete i p) (decLt i p)

@@ -9,8 +9,9 @@ use lib.IntN.{ℤ}
 use Rattle.meaning.specs.Kernel.{Stage, reach}
 use Rattle.meaning.specs.Refusals.{Answer, firstOf, differs, within}
 use Rattle.meaning.specs.Calls.{sampleRow, editRoom, pointRows}
+use Rattle.theory.specs.Local.{near-within}
 use Rattle.theory.specs.Places.{rowAt-ext}
-use Rattle.plan.specs.Span.{low, high, span-near}
+use Rattle.plan.specs.Span.{low, high}
 use Rattle.plan.specs.Placed.{placedRows, placed-refused, placed-rest}
 
 module _ (ss : List Stage) (M n : ℕ) (f : List ℤ) (nw : ℕ) {a : Answer} (wrong : Bool) (e : a ≡ firstOf (placedRows ss M (length f) wrong n)) (w : wrong ≡ differs nw (editRoom ss (length f))) where
@@ -20,4 +21,4 @@ module _ (ss : List Stage) (M n : ℕ) (f : List ℤ) (nw : ℕ) {a : Answer} (w
 
   pub test-sample : a .number ≡ 0 → {b : Answer} → b ≡ firstOf (sampleRow M f (within (low n (reach ss)) (high (length f) n (reach ss))) ∷ []) → b ≡ firstOf (pointRows ss M n f nw)
   unfolding pointRows
-  test-sample z g = placed-rest ss M (length f) wrong n e w _ z (g ∙ ap (λ row. firstOf (row ∷ [])) (rowAt-ext 11 (length f) (λ i k. rw (span-near ss (length f) n i k))))
+  test-sample z g = placed-rest ss M (length f) wrong n e w _ z (g ∙ ap (λ row. firstOf (row ∷ [])) (rowAt-ext 11 (length f) (λ i k. rw (near-within ss n k))))
