@@ -25,7 +25,7 @@ use Rattle.theory.specs.Lists.{listOf-ext}
 use Rattle.theory.specs.Sizes.{weight-size}
 use Rattle.theory.specs.Local.{near-yes, near-no, near-within}
 use Rattle.theory.specs.Tests.{or-no}
-use Rattle.theory.specs.Refusals.{done, done-off, off-done, ifDone-done, ifDone-refused}
+use Rattle.theory.specs.Refusals.{done, Off, done-off, off-done, ifDone-done, ifDone-refused}
 use Rattle.theory.specs.Places.{picked, rowAt-ext, rowAt-none}
 use Rattle.theory.specs.Edits.{resultRow, gained-near, changed-is}
 use Rattle.theory.specs.Accepted.{inner-allowed, length-accepted}
@@ -94,8 +94,23 @@ module _ (ss : List Stage) (M p : ℕ) (d : ℤ) (r : List ℤ) (ok : Editable s
     changes-refused h = record { answer = answer; count = sym (ifDone-refused a _ 0 h); results = sym (ifDone-refused a _ r h) }
 
     module _ (z : a .number ≡ 0) where
+      off : Off (rowAt 12 (length r) (picked (low p (reach ss)) (high (length r) p (reach ss)) (refusedIn (M * divisor ss) xs p d r)) ∷ [])
+      unfolding rowAt
+      off = done-off _ tt (sym (ap (λ (x : Answer). x .number) e) ∙ z)
+
+      within-limit : (n : ℕ) → start ≤ n → n < end → natAbs (movedIn xs p d r n) ≤ L
+      unfolding refusedIn
+      within-limit n h k = ltb-false _ _ (or-no (above L (at r n)) (above L (movedIn xs p d r n)) ? .1)
+
       pub writable : Writable xs p d r (low p (reach ss)) (high (length r) p (reach ss))
-      writable = ?
+      writable = record {
+        order = omega (arith, ok .position);
+        inside = omega arith;
+        gainable = gainable;
+        fits = λ n h k. record { bound = omega (arith, ok .common .product, within-limit n h k) };
+      }
 
       pub changes-done : {k : ℕ} {left : List ℤ} → k ≡ countIn d start end → left ≡ gainedIn xs p d r start end → Changes ss (M * divisor ss) p d r done k left
-      changes-done h g = ?
+      changes-done h g =
+          let none = sym (off-done _ off) ∙ ap (λ row. firstOf (row ∷ [])) row-is in
+          record { answer = none; count = h ∙ sym (changed-is half-sample (inner-allowed ss (ok .common .plan .stages)) p d r (ok .position)); results = g ∙ gained-is }

@@ -10,7 +10,8 @@ ghost use Rattle.meaning.specs.Smoothing as S;
 ghost use Rattle.meaning.specs.Bounds.{AcceptedPlan};
 ghost use Rattle.theory.specs.Slide.{window};
 ghost use Rattle.plan.specs.Structs.{stageOf, stagesOf};
-ghost use Rattle.taps.specs.Taps.{mirrored, staged, tapsOf, Held, Mirrorable, Stageable, Ready};
+ghost use Rattle.series.specs.Turn.{Windowed};
+ghost use Rattle.taps.specs.Taps.{mirrored, staged, tapsOf, Held, Stageable, Ready};
 ghost use Rattle.taps.specs.Weigh.{stridedIn, weightIn, Stridable, Weighable};
 use plan::Plan;
 
@@ -41,7 +42,7 @@ fn tap_at(taps: &[i64], i: usize) -> i64
 
 // The window around the centre: on either side stand the same taps.
 fn first_window(taps: &[i64], radius: usize) -> i64
-    requires { ⌜ Mirrorable radius (now taps) ⌝ }
+    requires { ⌜ Windowed radius (mirrored (now taps)) ⌝ }
     ensures { λ r. ⌜ r ≡ window (mirrored (now (taps .entry))) radius (pos 0) ⌝ }
 {
     let mut s = tap_at(taps, 0);

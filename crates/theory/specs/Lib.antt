@@ -25,6 +25,7 @@
 --   Encoding     numbers as bytes and as text
 --   Records      the job record: what is written is read, what is read as done was written
 --   Accepted     a call is done exactly where the bounds hold
+--   Farthest     how far an accepted plan reaches at most
 --   Programs     what the program prints
 -- A law over an index map φ takes `F : Folding φ`, and where it speaks of reach `C : Nearness φ`: for document 01, half-sample and half-sample-near.
 pub mod Folding
@@ -53,4 +54,5 @@ pub mod Values
 pub mod Encoding
 pub mod Records
 pub mod Accepted
+pub mod Farthest
 pub mod Programs

@@ -1,13 +1,13 @@
 -- Lists made of their elements, and how large those are.
 --   Sized M f   no element of f is larger than M; its field `size i` holds past the end too, where f reads as 0
--- Laws: length-listOf, at-listOf, listOf-ext, listOf-at (a list is that of its elements); at-past;
+-- Laws: length-listOf, at-listOf, listOf-ext, listOf-at (a list is that of its elements), listOf-const; at-past;
 -- sized (from the elements there are), sized-listOf, sized-set.
 use mathlib.Core.Path.{_≡_, refl, sym, _∙_, ap, ap₂}
 use mathlib.Core.List.{List, _∷_}
 use Prim.Native.Nat.{ℕ, zero, suc, _≤_, _<_}
 use native.Mathlib.Decide.{decLt, ℕ-discrete}
 use native.Mathlib.Omega.{arith}
-use lib.ListN.{length, set, length-set, List·getD-eq-default}
+use lib.ListN.{length, replicate, set, length-set, List·getD-eq-default}
 use lib.Seq.{ext-getD, getD-set-same, getD-set-other}
 use lib.IntN.{ℤ, pos}
 use Rattle.algebra.specs.Size.{Abs}
@@ -33,6 +33,11 @@ listOf-ext (suc n) e = ap₂ _∷_ (e 0 (omega arith)) (listOf-ext n (λ i l. e 
 
 pub listOf-at : (n : ℕ) (f : List ℤ) → length f ≡ n → listOf n (at f) ≡ f
 listOf-at n f e = ext-getD (pos 0) _ f (length-listOf n (at f) ∙ sym e) (λ i l. at-listOf n (at f) i (omega (arith, length-listOf n (at f))))
+
+pub listOf-const : (n : ℕ) (x : ℤ) → listOf n (λ i. x) ≡ replicate n x
+unfolding listOf
+listOf-const zero x = refl
+listOf-const (suc n) x = ap (λ l. x ∷ l) (listOf-const n x)
 
 pub at-past : (f : List ℤ) (i : ℕ) → length f ≤ i → at f i ≡ pos 0
 at-past f i h = List·getD-eq-default f (pos 0) h

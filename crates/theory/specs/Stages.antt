@@ -2,11 +2,11 @@
 --   PositiveInner ss   every inner weight of ss is above 0
 -- Laws: tapSum-is, divisor-cons; width-append, reach-append, divisor-append; width-replicate, reach-replicate, divisor-replicate (of K equal stages);
 -- divisor-plan, reach-edged, reach-plain (document 01's numbers of a plan);
--- inner-replicate, inner-append, tapSum-positive, divisor-positive, divisor-part; replicate-part; room-part, room-replicate.
+-- inner-replicate, inner-append, tapSum-positive, divisor-positive, divisor-part; replicate-part, reach-part; room-part, room-replicate.
 use mathlib.Core.Path.{_≡_, refl, sym, _∙_, ap}
 use mathlib.Core.List.{List, [], _∷_, _++_}
 use Prim.Native.Nat.{ℕ, zero, suc, _+_, _*_, _-_, _^_, _≤_, _<_}
-use native.Mathlib.Nat.{zero-mul, suc-mul, mul-assoc, mul-comm, one-mul, mul-pos, le-mul-of-pos-right, mul-le-mul-left, pow-zero, pow-suc}
+use native.Mathlib.Nat.{zero-mul, suc-mul, mul-assoc, mul-comm, one-mul, mul-pos, le-mul-of-pos-right, mul-le-mul-left, mul-le-mul-right, pow-zero, pow-suc}
 use native.Mathlib.Omega.{arith}
 use lib.ListN.{replicate, replicate-append-replicate}
 use borrow.Author.Tests.{ne-eqb}
@@ -92,6 +92,9 @@ divisor-part {ss} ts p = rw (divisor-append ss ts, mul-comm (divisor ss) (diviso
 -- k of K equal stages, and those to come
 pub replicate-part : (s : Stage) {k K : ℕ} → k ≤ K → replicate (K - k) s ++ replicate k s ≡ replicate K s
 replicate-part s {k} {K} h = let e : K - k + k ≡ K = omega arith in replicate-append-replicate (K - k) k s ∙ ap (λ n. replicate n s) e
+
+pub reach-part : (s : Stage) {k K : ℕ} → k ≤ K → reach (replicate k s) ≤ reach (replicate K s)
+reach-part s {k} {K} h = rw (reach-replicate k s, reach-replicate K s) (mul-le-mul-right (tapReach s) h)
 
 -- the pass of s after those of ts, with those of ss to come: results of size up to M divisor have room for it
 pub room-part : (M : ℕ) {ss : List Stage} → PositiveInner ss → (s : Stage) (ts : List Stage) → M * divisor ts * tapSum s ≤ M * divisor (ss ++ (s ∷ ts))

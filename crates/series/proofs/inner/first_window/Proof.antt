@@ -8,8 +8,9 @@ use mir.Val.{toZ, ofZ}
 use mir.Facts.{toZ-ofZ}
 use borrow.Author.Needs.{needs, sfits-of}
 use Rattle.meaning.specs.Extension.{fold, ext}
+use Rattle.theory.specs.HalfSample.{ext-negsuc}
 use Rattle.theory.specs.Slide.{window, window-none}
-use Rattle.series.specs.Turn.{Widening, pair-fits, widened-is, widened-fits}
+use Rattle.series.specs.Turn.{Widening, pair-fits, widened-is, widened-fits, window-room}
 use Rattle.series.proofs.inner.first_window.Statement.{statement}
 use Rattle.series.proofs.inner.first_window.Tie as tie
 
@@ -33,14 +34,14 @@ ahead-requires-2 c κs = search needs
 
 turn : (c : tie.After-ahead2 Inv-loop μ-loop) →
     let l = c .before .before .loop in
-    Widening (c .before .before .before .before .args .src .now) (l .j) (toZ w64 (l .s)) (toZ w64 (l .lo)) (toZ w64 (ofZ w64 (c .ahead2 .result)))
-turn c = record { sum = c .before .before .loop .inv .2; low = c .before .before .loop .inv .1; high = search needs }
+    Widening (ext fold (c .before .before .before .before .args .src .now)) (l .j) (toZ w64 (l .s)) (toZ w64 (l .lo)) (toZ w64 (ofZ w64 (c .ahead2 .result)))
+turn c = record { sum = c .before .before .loop .inv .2; low = c .before .before .loop .inv .1 ∙ sym (ext-negsuc _ _); high = search needs }
 
 add-s : tie.Need-add-s Inv-loop μ-loop
-add-s c = pair-fits (c .before .before .before .before .pre) (omega arith) (turn c)
+add-s c = pair-fits (window-room (c .before .before .before .before .pre)) (omega arith) (turn c)
 
 add-s-2 : tie.Need-add-s-2 Inv-loop μ-loop
-add-s-2 c = rw (toZ-ofZ (add-s c)) (widened-fits (c .before .before .before .before .pre) (omega arith) (turn c))
+add-s-2 c = rw (toZ-ofZ (add-s c)) (widened-fits (window-room (c .before .before .before .before .pre)) (omega arith) (turn c))
 
 add-j : tie.Need-add-j Inv-loop μ-loop
 add-j c = search needs
@@ -49,7 +50,7 @@ loop-less : tie.Need-loop-less Inv-loop μ-loop
 loop-less c = search needs
 
 loop-again : tie.Need-loop-again Inv-loop μ-loop
-loop-again c = (omega arith, turn c .high, toZ-ofZ (add-s-2 c) ∙ rw (toZ-ofZ (add-s c)) (widened-is (c .before .before .before .before .pre) (omega arith) (turn c)))
+loop-again c = (omega arith, turn c .high, toZ-ofZ (add-s-2 c) ∙ rw (toZ-ofZ (add-s c)) (widened-is (window-room (c .before .before .before .before .pre)) (omega arith) (turn c)))
 
 returns : tie.Need-returns Inv-loop μ-loop
 returns c =

@@ -1,6 +1,6 @@
 -- Before cell n, w is the window around n and lo the cell before it; the first n cells are the pass's.
 use Prim.Native.Nat.{_+_, _-_, _≤_}
-use mathlib.Core.Path.{_≡_, refl, _∙_}
+use mathlib.Core.Path.{_≡_, refl, sym, _∙_}
 use native.Mathlib.Omega.{arith}
 use lib.ListN.{length, take, length-set}
 use lib.IntN.{pos, _-ℤ_}
@@ -10,10 +10,11 @@ use mir.Facts.{toZ-ofZ, toZ-pos}
 use borrow.Author.Needs.{needs, sfits-of}
 use Rattle.meaning.specs.Extension.{fold, ext}
 use Rattle.meaning.specs.Smoothing as S
-use Rattle.theory.specs.Passes.{length-pass}
+use Rattle.theory.specs.Passes.{length-pass, at-pass}
 use Rattle.theory.specs.Slide.{window}
 use Rattle.theory.specs.Fill.{fill-next, fill-done}
-use Rattle.series.specs.Turn.{Turn, summable, cell-is, cell-fits, low-next, slide-is, slide-fits}
+use Rattle.plan.specs.Structs.{stageOf}
+use Rattle.series.specs.Turn.{Turn, cell-is, cell-fits, low-next, slide-is, slide-fits, pass-room, summable}
 use Rattle.series.proofs.inner.pass.Statement.{statement}
 use Rattle.series.proofs.inner.pass.Tie as tie
 
@@ -60,7 +61,7 @@ ahead-requires c κs = search needs
 turn : (c : tie.After-ahead Inv-loop μ-loop) →
     let start = c .before .before .before .before .before .before .before .before in
     let l = c .before .before .before .loop in
-    Turn (start .args .plan) (start .args .src .now) (l .n) (toZ w64 (start .args .plan .inner)) (toZ w64 (start .args .plan .edge)) (toZ w64 (l .w)) (toZ w64 (l .lo)) (toZ w64 (ofZ w64 (c .before .behind2 .result))) (toZ w64 (ofZ w64 (c .ahead .result)))
+    Turn (stageOf (start .args .plan)) (ext fold (start .args .src .now)) (l .n) (toZ w64 (start .args .plan .inner)) (toZ w64 (start .args .plan .edge)) (toZ w64 (l .w)) (toZ w64 (l .lo)) (toZ w64 (ofZ w64 (c .before .behind2 .result))) (toZ w64 (ofZ w64 (c .ahead .result)))
 turn c = record {
   inner = toZ-pos w64 (omega arith);
   edge = toZ-pos w64 (omega arith);
@@ -71,7 +72,7 @@ turn c = record {
 }
 
 cell-requires : tie.Need-cell-requires Inv-loop μ-loop
-cell-requires c κs = cell-fits (c .before .before .before .before .before .before .before .before .pre) (turn c)
+cell-requires c κs = cell-fits (turn c) (pass-room (c .before .before .before .before .before .before .before .before .pre))
 
 mul-v : tie.Need-mul-v Inv-loop μ-loop
 mul-v c = search needs
@@ -80,7 +81,7 @@ slice-set-from-v : tie.Need-slice-set-from-v Inv-loop μ-loop
 slice-set-from-v c = search needs
 
 slide-requires : tie.Need-slide-requires Inv-loop μ-loop
-slide-requires c κs = slide-fits (c .before .before .before .before .before .before .before .before .before .pre) (turn (c .before))
+slide-requires c κs = slide-fits (turn (c .before)) (pass-room (c .before .before .before .before .before .before .before .before .before .pre))
 
 add-n : tie.Need-add-n Inv-loop μ-loop
 add-n c = search needs
@@ -91,13 +92,12 @@ loop-less c = search needs
 loop-again : tie.Need-loop-again Inv-loop μ-loop
 loop-again c =
     let l = c .before .before .before .before .before .loop in
-    let start = c .before .before .before .before .before .before .before .before .before .before in
     let t = turn (c .before .before) in (
       omega arith,
       simp length-set (l .inv .1),
-      toZ-ofZ (sfits-of (c .slide .ok)) ∙ c .slide .ensures ∙ slide-is (start .pre) t,
-      low-next (start .pre) t,
-      fill-next _ (l .dst) (l .n) (l .inv .4) _ (omega arith) (rw length-pass (omega arith)) (toZ-ofZ (sfits-of (c .before .cell .ok)) ∙ cell-is (start .pre) t (c .before .cell .ensures) (omega arith)),
+      toZ-ofZ (sfits-of (c .slide .ok)) ∙ c .slide .ensures ∙ slide-is t,
+      low-next t,
+      fill-next _ (l .dst) (l .n) (l .inv .4) _ (omega arith) (rw length-pass (omega arith)) (toZ-ofZ (sfits-of (c .before .cell .ok)) ∙ cell-is t (c .before .cell .ensures) ∙ sym (at-pass fold _ _ (l .n) (omega arith))),
     )
 
 same-length : tie.Need-same-length Inv-loop μ-loop
