@@ -24,7 +24,7 @@ use Rattle.theory.specs.HalfSample.{half-sample}
 use Rattle.theory.specs.Lists.{listOf-ext}
 use Rattle.theory.specs.Sizes.{weight-size}
 use Rattle.theory.specs.Local.{near-yes, near-no, near-within}
-use Rattle.theory.specs.Tests.{or-no}
+use Rattle.theory.specs.Tests.{or-no, within-yes}
 use Rattle.theory.specs.Refusals.{done, Off, done-off, off-done, ifDone-done, ifDone-refused}
 use Rattle.theory.specs.Places.{picked, rowAt-ext, rowAt-none}
 use Rattle.theory.specs.Edits.{resultRow, gained-near, changed-is}
@@ -100,7 +100,7 @@ module _ (ss : List Stage) (M p : ℕ) (d : ℤ) (r : List ℤ) (ok : Editable s
 
       within-limit : (n : ℕ) → start ≤ n → n < end → natAbs (movedIn xs p d r n) ≤ L
       unfolding refusedIn
-      within-limit n h k = ltb-false _ _ (or-no (above L (at r n)) (above L (movedIn xs p d r n)) ? .1)
+      within-limit n h k = ltb-false _ _ (or-no (above L (at r n)) (above L (movedIn xs p d r n)) (rw (within-yes start end n h k) at (rowAt-none 12 (length r) _ (off .0) n (omega arith))) .1)
 
       pub writable : Writable xs p d r (low p (reach ss)) (high (length r) p (reach ss))
       writable = record {
@@ -111,6 +111,7 @@ module _ (ss : List Stage) (M p : ℕ) (d : ℤ) (r : List ℤ) (ok : Editable s
       }
 
       pub changes-done : {k : ℕ} {left : List ℤ} → k ≡ countIn d start end → left ≡ gainedIn xs p d r start end → Changes ss (M * divisor ss) p d r done k left
+      unfolding ifDone
       changes-done h g =
           let none = sym (off-done _ off) ∙ ap (λ row. firstOf (row ∷ [])) row-is in
           record { answer = none; count = h ∙ sym (changed-is half-sample (inner-allowed ss (ok .common .plan .stages)) p d r (ok .position)); results = g ∙ gained-is }
