@@ -1,7 +1,7 @@
 -- The rows of the table of numbers say the bounds: a call is done exactly where they hold.
 -- Laws: plan-rows (rows 1 to 4 of K equal stages, by the plan's numbers); plan-allowed, allowed-plan (rows 1 to 4), stage-allowed, allowed-stages (of K equal stages);
 -- length-allowed, allowed-length (rows 1 to 8 of a series); series-allowed, allowed-series (smoothing one), series-position, series-no-position;
--- divisor-allowed; accepted-divisor, accepted-reach, divisor-accepted, no-divisor, no-reach (a plan's own numbers).
+-- inner-allowed, divisor-allowed; accepted-divisor, accepted-reach, divisor-accepted, no-divisor, no-reach (a plan's own numbers).
 use mathlib.Core.Path.{_≡_, refl, sym, _∙_, ap}
 use mathlib.Core.Bool.{Bool, true, false, _||_}
 use mathlib.Core.List.{List, [], _∷_}
@@ -154,12 +154,12 @@ module _ (ss : List Stage) (M : ℕ) (f : List ℤ) (nr nw : ℕ) where
     series-no-position h = place-other 11 (length f) common common-unplaced _ (omega arith) e h
 
 -- ---- a plan's own numbers
-positive : (ss : List Stage) → AllowedStages ss → PositiveInner ss
-positive [] ok = none
-positive (s ∷ ss) ok = ok .0 .inner .0 and positive ss (ok .1)
+pub inner-allowed : (ss : List Stage) → AllowedStages ss → PositiveInner ss
+inner-allowed [] ok = none
+inner-allowed (s ∷ ss) ok = ok .0 .inner .0 and inner-allowed ss (ok .1)
 
 pub divisor-allowed : (ss : List Stage) → AllowedStages ss → 0 < divisor ss
-divisor-allowed ss ok = divisor-positive (positive ss ok)
+divisor-allowed ss ok = divisor-positive (inner-allowed ss ok)
 
 module _ (ss : List Stage) where
   own-numbered : Numbered (ownRows ss)

@@ -24,6 +24,7 @@
 --   Encoding     numbers as bytes and as text
 --   Records      the job record: what is written is read, what is read as done was written
 --   Accepted     a call is done exactly where the bounds hold
+--   AcceptedEdits, AcceptedPoints   the same of an edit and of a point
 --   Programs     what the program prints
 -- A law over an index map φ takes `F : Folding φ`, and where it speaks of reach `C : Nearness φ`: for document 01, half-sample and half-sample-near.
 pub mod Folding
@@ -51,4 +52,6 @@ pub mod Edits
 pub mod Encoding
 pub mod Records
 pub mod Accepted
+pub mod AcceptedEdits
+pub mod AcceptedPoints
 pub mod Programs
