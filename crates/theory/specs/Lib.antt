@@ -26,6 +26,8 @@
 --   Records      the job record: what is written is read, what is read as done was written
 --   Accepted     a call is done exactly where the bounds hold
 --   Farthest     how far an accepted plan reaches at most
+--   AcceptedEdits, AcceptedPoints   the same of an edit and of a point
+--   Stored       what an edit leaves of a stored smoothing
 --   Programs     what the program prints
 -- A law over an index map φ takes `F : Folding φ`, and where it speaks of reach `C : Nearness φ`: for document 01, half-sample and half-sample-near.
 pub mod Folding
@@ -55,4 +57,7 @@ pub mod Encoding
 pub mod Records
 pub mod Accepted
 pub mod Farthest
+pub mod AcceptedEdits
+pub mod AcceptedPoints
+pub mod Stored
 pub mod Programs

@@ -3,7 +3,7 @@
 --   Clear t i            t is false before i
 -- Laws: firstWhere-ext, firstWhere-none, firstWhere-is, firstWhere-before, firstWhere-at; clear-next;
 -- rowAt-ext, rowAt-on, rowAt-off, rowAt-none, rowAt-answer; place-here, place-other (of rows whose last one alone has a position);
--- walk-start, walk-next, walk-found, walk-done (a loop from start up to end that answers where t is true); first-map.
+-- first-map (the first place by what the test means); walk-start, walk-next, walk-found, walk-done (a loop from start up to end that answers where t is true).
 use mathlib.Core.Path.{_≡_, refl, sym, _∙_, ap}
 use mathlib.Core.Logic.{_⊎_, inl, inr, ⊎-elim}
 use mathlib.Core.Bool.{Bool, true, false, cond, _&&_, and-false, true≢false}
@@ -101,6 +101,7 @@ module _ (n N : ℕ) where
     pub place-other : (a .number ≡ n → ⊥) → a .position ≡ 0
     place-other h = ⊎-elim (λ p. p .1) (λ p. absurd (h (p .0))) placed
 
+-- ---- the first place with a property
 pub first-map : {N : ℕ} {P Q : ℕ → Type 0} {i : ℕ} → ((j : ℕ) → j < N → P j → Q j) → ((j : ℕ) → j < N → Q j → P j) → FirstAt N P i → FirstAt N Q i
 first-map to from h = record { within = h .within; here = to _ (h .within) (h .here); before = λ j l k. h .before j l (from j (omega arith) k) }
 

@@ -7,7 +7,7 @@
 -- Laws: first-on, first-off (the first row applies, or not), first-applies (the answer is that of a row that applies), first-lowest (where the numbers rise, of the lowest);
 -- first-parts (the answer is that of rows without position, or that of the rest), first-unplaced;
 -- done-off, off-done, done-none, none-done (it is 0 exactly where none applies); off-append, append-off; refused-first, done-rest (rows in two parts);
--- ifDone-done, ifDone-refused; plan-numbered, common-numbered.
+-- ifDone-done, ifDone-refused, ifDone-ext; plan-numbered, common-numbered.
 use mathlib.Core.Path.{_≡_, refl, sym, _∙_, ap}
 use mathlib.Core.Logic.{_⊎_, inl, inr, ⊎-elim, ⊎-map}
 use mathlib.Core.Bool.{Bool, true, false, cond, _&&_, true≢false}
@@ -171,6 +171,14 @@ ifDone-done a new old e = rw (eq-eqb (a .number) 0 e)
 pub ifDone-refused : {A : Type 0} (a : Answer) (new old : A) → (a .number ≡ 0 → ⊥) → ifDone a new old ≡ old
 unfolding ifDone
 ifDone-refused a new old e = rw (ne-eqb (a .number) 0 e)
+
+pub ifDone-ext : {A : Type 0} (a : Answer) {new new′ : A} (old : A) → (a .number ≡ 0 → new ≡ new′) → ifDone a new old ≡ ifDone a new′ old
+unfolding ifDone
+ifDone-ext a {new} {new′} old h = go (eqb (a .number) 0) (λ e. h (eqb-true (a .number) 0 e))
+  where
+    go : (b : Bool) → (b ≡ true → new ≡ new′) → cond b new old ≡ cond b new′ old
+    go true k = k refl
+    go false k = refl
 
 -- ---- the rows that calls share
 pub plan-numbered : (ps : List (List Stage)) → Numbered (planRows ps)

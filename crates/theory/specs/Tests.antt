@@ -1,5 +1,6 @@
 -- Tests by what they test, and joined.
--- Laws: or-no, no-or (both fail), or-yes, yes-or; and-yes, yes-and (both pass), and-no, no-and (the second fails where the first passes); some-one, some-replicate; outside-no, no-outside; differs-no, no-differs; within-yes, within-before, within-behind.
+-- Laws: or-no, no-or (both fail), or-yes, yes-or; and-yes, yes-and (both pass), and-no, no-and (the second fails where the first passes), and-when (the second matters there only);
+-- some-one, some-replicate; outside-no, no-outside; differs-no, no-differs; within-yes, within-before, within-behind.
 use mathlib.Core.Path.{_≡_, refl, sym, ap}
 use mathlib.Core.Logic.{_⊎_, inl, inr}
 use mathlib.Core.Bool.{Bool, true, false, not, _&&_, _||_, true≢false, or-false, and-false}
@@ -41,6 +42,10 @@ and-no false b e h = absurd (true≢false (sym h))
 pub no-and : (a b : Bool) → (a ≡ true → b ≡ false) → (a && b) ≡ false
 no-and true b h = h refl
 no-and false b h = refl
+
+pub and-when : (a : Bool) {b c : Bool} → (a ≡ true → b ≡ c) → (a && b) ≡ (a && c)
+and-when true h = h refl
+and-when false h = refl
 
 or-same : (b : Bool) → (b || b) ≡ b
 or-same true = refl

@@ -1,0 +1,92 @@
+-- The rows of a point: it is done exactly where its bounds hold, and which positions it answers. Its answer and value depend only on samples within reach.
+-- Laws: point-rising, point-numbered; point-allowed, allowed-point; point-position (at 11), point-no-position (else); pointRows-local, point-local.
+use mathlib.Core.Path.{_≡_, refl, _∙_, ap}
+use mathlib.Core.Bool.{_&&_}
+use mathlib.Core.List.{List, [], _∷_, _++_}
+use Prim.Native.Nat.{ℕ, _≤_, _<_}
+use native.Mathlib.Omega.{arith}
+use lib.Dec.{leb}
+use lib.ListN.{length}
+use lib.IntN.{ℤ, pos, natAbs}
+use borrow.Author.Tests.{ltb-true, ltb-false, leb-false, lt-ltb, le-ltb, lt-leb}
+use Rattle.meaning.specs.Extension.{at, IndexMap}
+use Rattle.meaning.specs.Kernel.{Stage, reach, divisor}
+use Rattle.meaning.specs.Smoothing.{result, apart, near}
+use Rattle.meaning.specs.Refusals.{Answer, Row, _when_, firstOf, rowAt, differs, above, seriesOf, planRows, sizeRows, commonRows}
+use Rattle.meaning.specs.Values.{ratio, plusZero}
+use Rattle.meaning.specs.Calls.{sampleRow, editRoom, pointRows, point}
+use Rattle.meaning.specs.Bounds.{AllowedPoint, FirstAt}
+use Rattle.theory.specs.Folding.{Nearness}
+use Rattle.theory.specs.Local.{near-yes, near-true, result-local}
+use Rattle.theory.specs.Refusals.{done, Numbered, Rising, Unplaced, done-off, off-done, off-append, append-off, ifDone-ext}
+use Rattle.theory.specs.Places.{rowAt-ext, rowAt-off, rowAt-none, place-here, place-other, first-map}
+use Rattle.theory.specs.Tests.{and-yes, yes-and, and-no, no-and, and-when, differs-no, no-differs}
+use Rattle.theory.specs.Accepted.{length-allowed, allowed-length}
+
+module _ (ss : List Stage) (M n : ℕ) (f : List ℤ) (nw : ℕ) where
+  abbrev common : List Row
+  common = commonRows (seriesOf ss (length f)) M (differs nw (editRoom ss (length f)))
+
+  abbrev front : List Row
+  front = common ++ (9 when leb (length f) n) ∷ []
+
+  abbrev rows : List Row
+  rows = pointRows ss M n f nw
+
+  pub point-rising : Rising rows
+  unfolding pointRows planRows sizeRows rowAt
+  point-rising = tt
+
+  pub point-numbered : Numbered rows
+  unfolding pointRows planRows sizeRows rowAt
+  point-numbered = tt
+
+  front-unplaced : Unplaced 11 front
+  unfolding planRows sizeRows
+  front-unplaced = tt
+
+  parts : rows ≡ front ++ sampleRow M f (λ i. near ss i n) ∷ []
+  unfolding pointRows planRows sizeRows
+  parts = refl
+
+  pub point-allowed : firstOf rows .number ≡ 0 → AllowedPoint ss M n f nw
+  unfolding pointRows
+  point-allowed e =
+      let (h, t) = append-off common _ (done-off rows point-numbered e) in
+      let (ok, w) = length-allowed ss M (length f) h in
+      record {
+        common = ok;
+        work = differs-no _ _ w;
+        position = leb-false _ _ (t .0);
+        samples = λ i l k. ltb-false _ _ (and-no (near ss i n) _ (rowAt-none 11 (length f) _ (t .1 .0) i l) (near-yes ss i n k));
+      }
+
+  pub allowed-point : AllowedPoint ss M n f nw → firstOf rows ≡ done
+  unfolding pointRows
+  allowed-point ok = off-done rows (off-append common _ (allowed-length ss M (length f) (ok .common) (no-differs (ok .work))) (
+    lt-leb _ _ (ok .position),
+    (rowAt-off 11 (length f) (λ i l. no-and (near ss i n) _ (λ t. le-ltb _ _ (ok .samples i l (near-true ss i n t)))), tt),
+  ))
+
+  module _ {x : Answer} (e : x ≡ firstOf rows) where
+    pub point-position : x .number ≡ 11 → FirstAt (length f) (λ i. (apart i n ≤ reach ss) × (M < natAbs (at f i))) (x .position)
+    point-position h = first-map
+        (λ i l k. let (a, b) = and-yes (near ss i n) (above M (at f i)) k in (near-true ss i n a, ltb-true _ _ b))
+        (λ i l k. yes-and (near-yes ss i n (k .0)) (lt-ltb _ _ (k .1)))
+        (place-here 11 (length f) front front-unplaced _ (omega arith) (e ∙ ap firstOf parts) h)
+
+    pub point-no-position : (x .number ≡ 11 → ⊥) → x .position ≡ 0
+    point-no-position h = place-other 11 (length f) front front-unplaced _ (omega arith) (e ∙ ap firstOf parts) h
+
+-- ---- samples within reach
+module _ (ss : List Stage) (M n : ℕ) (f g : List ℤ) (e : length f ≡ length g) (k : (i : ℕ) → i < length f → apart i n ≤ reach ss → at f i ≡ at g i) where
+  pub pointRows-local : (nw : ℕ) → pointRows ss M n f nw ≡ pointRows ss M n g nw
+  unfolding pointRows
+  pointRows-local nw = rw (← e, rowAt-ext 11 (length f) {t = λ i. near ss i n && above M (at f i)} {u = λ i. near ss i n && above M (at g i)} (λ i l. and-when (near ss i n) (λ t. rw (k i l (near-true ss i n t)))))
+
+  pub point-local : {φ : IndexMap} → Nearness φ → (w x : List ℤ) → length w ≡ length x → (point φ ss M n f w .answer ≡ point φ ss M n g x .answer) × (point φ ss M n f w .value ≡ point φ ss M n g x .value)
+  unfolding point
+  point-local {φ} C w x h = rw (pointRows-local (length w) ∙ ap (pointRows ss M n g) h) (refl, ifDone-ext _ plusZero (λ z. ap (λ y. ratio y (divisor ss)) (same (rw e (point-allowed ss M n g (length x) z .position)))))
+    where
+      same : n < length f → result φ ss f (pos n) ≡ result φ ss g (pos n)
+      same l = result-local C ss f g e l (λ p m q. k p m (omega arith))
