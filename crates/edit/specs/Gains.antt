@@ -4,15 +4,19 @@
 --   gainedIn xs p d r start end   the results, those from start up to end with their gains
 --   refusedIn L xs p d r n        that result has, or would get, a size above L
 --   countIn d start end    how many change: all from start up to end, or none where d is 0
+--   startIn xs p, endIn xs N p   what lies within reach of p, of N
+--   ChangesIn xs L p d r a k left   the answer a, the count k and the results left of an edit by xs under the limit L
 --   Gainable xs N p d      room for every weight and every gain
 --   Writable               room for every result that is written
--- Laws: gain-weighable, gain-fits, sum-fits; length-gainedIn, gained-inside, gained-before, gained-behind.
+-- Laws: gain-weighable, gain-fits, sum-fits; length-gainedIn, gained-inside, gained-before, gained-behind;
+-- by-refused, by-writable, by-done (the two ends of an edit by taps).
 use Prim.Native.Nat.{ℕ, _*_, _-_, _≤_, _<_}
-use mathlib.Core.Path.{_≡_}
+use mathlib.Core.Path.{_≡_, sym, _∙_, ap}
 use mathlib.Core.Bool.{Bool, cond, _||_}
-use mathlib.Core.List.{List}
+use mathlib.Core.List.{List, [], _∷_}
 use native.Mathlib.Omega.{arith}
 use lib.Dec.{eqb}
+use borrow.Author.Tests.{ltb-false}
 use lib.ListN.{length}
 use lib.IntN.{ℤ, pos, natAbs, _+ℤ_, _*ℤ_}
 use lib.Signed.{_≤ℤ_}
@@ -22,9 +26,12 @@ use Rattle.algebra.specs.Size.{Abs, abs-+, fits-abs}
 use Rattle.meaning.specs.Limits.{maxResult, maxLength}
 use Rattle.meaning.specs.Extension.{at}
 use Rattle.meaning.specs.Smoothing.{listOf}
-use Rattle.meaning.specs.Refusals.{within, above}
+use Rattle.meaning.specs.Refusals.{Answer, firstOf, rowAt, within, above, ifDone}
 use Rattle.theory.specs.Lists.{length-listOf, at-listOf}
-use Rattle.theory.specs.Tests.{within-yes, within-before, within-behind}
+use Rattle.theory.specs.Refusals.{done, Off, done-off, off-done, ifDone-refused}
+use Rattle.theory.specs.Tests.{or-no, within-yes, within-before, within-behind}
+use Rattle.theory.specs.Places.{picked, rowAt-none}
+use Rattle.plan.specs.Span.{low, high}
 use Rattle.taps.specs.Weigh.{weightIn, Weighable}
 
 unfoldable pub gainIn : List ℤ → ℕ → ℕ → ℤ → ℕ → ℤ
@@ -42,6 +49,13 @@ refusedIn L xs p d r n = above L (at r n) || above L (movedIn xs p d r n)
 abbrev pub countIn : ℤ → ℕ → ℕ → ℕ
 countIn d start end = cond (eqb (natAbs d) 0) 0 (end - start)
 
+-- from the centre outward, the last tap is as far out as there are taps less one
+abbrev pub startIn : List ℤ → ℕ → ℕ
+startIn xs p = low p (length xs - 1)
+
+abbrev pub endIn : List ℤ → ℕ → ℕ → ℕ
+endIn xs N p = high N p (length xs - 1)
+
 pub record Gainable (xs : List ℤ) (N p : ℕ) (d : ℤ) : Type 0 where
   pub few : N ≤ maxLength
   pub sample : p < N
@@ -54,6 +68,11 @@ pub record Writable (xs : List ℤ) (p : ℕ) (d : ℤ) (r : List ℤ) (start en
   pub inside : end ≤ length r
   pub gainable : Gainable xs (length r) p d
   pub fits : (n : ℕ) → start ≤ n → n < end → Abs (movedIn xs p d r n) maxResult
+
+pub record ChangesIn (xs : List ℤ) (L p : ℕ) (d : ℤ) (r : List ℤ) (a : Answer) (k : ℕ) (left : List ℤ) : Type 0 where
+  pub answer : a ≡ firstOf (rowAt 12 (length r) (picked (startIn xs p) (endIn xs (length r) p) (refusedIn L xs p d r)) ∷ [])
+  pub count : k ≡ ifDone a (countIn d (startIn xs p) (endIn xs (length r) p)) 0
+  pub results : left ≡ ifDone a (gainedIn xs p d r (startIn xs p) (endIn xs (length r) p)) r
 
 -- ---- one gain
 module _ {xs : List ℤ} {N p : ℕ} {d : ℤ} (h : Gainable xs N p d) {n : ℕ} (l : n < N) where
@@ -85,3 +104,36 @@ module _ (xs : List ℤ) (p : ℕ) (d : ℤ) (r : List ℤ) (start end : ℕ) wh
 
   pub gained-behind : (n : ℕ) → n < length r → end ≤ n → at r n ≡ at (gainedIn xs p d r start end) n
   gained-behind n l h = rw (at-gainedIn n l, within-behind start end n h)
+
+-- ---- an edit by taps, at the code's own numbers: start and end as it found them, c the change as it reads it
+module _ (xs : List ℤ) (L p : ℕ) (d : ℤ) (r : List ℤ) {start end : ℕ} {c : ℤ} {a : Answer} (s : start ≡ startIn xs p) (t : end ≡ endIn xs (length r) p) (u : c ≡ d)
+    (e : a ≡ firstOf (rowAt 12 (length r) (picked start end (refusedIn L xs p c r)) ∷ [])) where
+  answered : a ≡ firstOf (rowAt 12 (length r) (picked (startIn xs p) (endIn xs (length r) p) (refusedIn L xs p d r)) ∷ [])
+  answered = rw (s, t, u) at e
+
+  pub by-refused : (a .number ≡ 0 → ⊥) → ChangesIn xs L p d r a 0 r
+  by-refused h = record { answer = answered; count = sym (ifDone-refused a _ 0 h); results = sym (ifDone-refused a _ r h) }
+
+  module _ (z : a .number ≡ 0) where
+    none : Off (rowAt 12 (length r) (picked start end (refusedIn L xs p c r)) ∷ [])
+    unfolding rowAt
+    none = done-off _ tt (sym (ap (λ (x : Answer). x .number) e) ∙ z)
+
+    passed : (n : ℕ) → start ≤ n → n < end → end ≤ length r → natAbs (movedIn xs p c r n) ≤ L
+    unfolding refusedIn
+    passed n h k l = ltb-false _ _ (or-no (above L (at r n)) (above L (movedIn xs p c r n)) (rw (within-yes start end n h k) at (rowAt-none 12 (length r) _ (none .0) n (omega arith))) .1)
+
+    none′ : Off (rowAt 12 (length r) (picked (startIn xs p) (endIn xs (length r) p) (refusedIn L xs p d r)) ∷ [])
+    none′ = rw (s, t, u) at none
+
+    pub by-writable : L ≤ maxResult → Gainable xs (length r) p c → Writable xs p c r start end
+    by-writable l g = record {
+      order = omega (arith, g .sample);
+      inside = omega arith;
+      gainable = g;
+      fits = λ n h k. record { bound = omega (arith, passed n h k (omega arith)) };
+    }
+
+    pub by-done : {k : ℕ} {left : List ℤ} → k ≡ countIn c start end → left ≡ gainedIn xs p c r start end → ChangesIn xs L p d r done k left
+    unfolding ifDone
+    by-done h g = record { answer = sym (off-done _ none′); count = rw (s, t, u) at h; results = rw (s, t, u) at g }

@@ -7,9 +7,10 @@ ghost use lib.ListN.{length};
 ghost use lib.IntN.{natAbs, _+ℤ_};
 ghost use Rattle.meaning.specs.Limits.{maxResult};
 ghost use Rattle.meaning.specs.Refusals as R;
-ghost use Rattle.plan.specs.Structs.{answerOf};
-ghost use Rattle.edit.specs.Gains.{gainIn, refusedIn, gainedIn, countIn, Gainable, Writable};
+ghost use Rattle.plan.specs.Structs.{answerOf, editAnswer};
+ghost use Rattle.edit.specs.Gains.{gainIn, refusedIn, gainedIn, countIn, Gainable, Writable, ChangesIn};
 use plan::Answer;
+use plan::Edited;
 
 // What the result at n of len gains where sample p changes.
 fn gain(taps: &[i64], len: usize, p: usize, change: i64, n: usize) -> i64
@@ -31,7 +32,7 @@ fn passes_limit(limit: u64, old: i64, gain: i64) -> bool
 }
 
 // Row 12, of the results from start up to end.
-pub(crate) fn result_refusal(
+fn result_refusal(
     taps: &[i64],
     limit: u64,
     p: usize,
@@ -61,14 +62,7 @@ pub(crate) fn result_refusal(
 }
 
 // Gives the results from start up to end their gains.
-pub(crate) fn add_gains(
-    taps: &[i64],
-    p: usize,
-    change: i64,
-    results: &mut [i64],
-    start: usize,
-    end: usize,
-)
+fn add_gains(taps: &[i64], p: usize, change: i64, results: &mut [i64], start: usize, end: usize)
     requires { ⌜ Writable (now taps) p change (now results) start end ⌝ }
     ensures { λ _. ⌜ now (results .exit) ≡ gainedIn (now (taps .entry)) p change (now (results .entry)) start end ⌝ }
 {
@@ -83,9 +77,39 @@ pub(crate) fn add_gains(
 }
 
 // How many results change: every weight within reach is above 0, so all of them, or none.
-pub(crate) fn count(change: i64, start: usize, end: usize) -> usize
+fn count(change: i64, start: usize, end: usize) -> usize
     requires { ⌜ start ≤ end ⌝ }
     ensures { λ r. ⌜ r ≡ countIn change start end ⌝ }
 {
     if change == 0 { 0 } else { end - start }
+}
+
+// An edit of the results by taps that reach as far as there are any: what lies within reach is tested, and then written.
+pub(crate) fn edit_by(
+    taps: &[i64],
+    limit: u64,
+    p: usize,
+    change: i64,
+    results: &mut [i64],
+) -> Edited
+    requires { ⌜ (limit ≤ maxResult) × (1 ≤ length (now taps)) × Gainable (now taps) (length (now results)) p change ⌝ }
+    ensures { λ r. ⌜ ChangesIn (now (taps .entry)) limit p change (now (results .entry)) (editAnswer r) (r .count) (now (results .exit)) ⌝ }
+{
+    let reach = taps.len() - 1;
+    let start = plan::inner::reach_start(p, reach);
+    let end = plan::inner::reach_end(results.len(), p, reach);
+    let answer = result_refusal(taps, limit, p, change, results, start, end);
+    if answer.number != 0 {
+        return Edited {
+            number: answer.number,
+            position: answer.position,
+            count: 0,
+        };
+    }
+    add_gains(taps, p, change, results, start, end);
+    Edited {
+        number: 0,
+        position: 0,
+        count: count(change, start, end),
+    }
 }

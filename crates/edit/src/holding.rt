@@ -53,7 +53,7 @@ fn with_room(
     )
 }
 
-// The same, with as much room as there are taps: what is within reach is tested, and then written.
+// The same, with as much room as there are taps.
 fn with_taps(
     plan: Plan,
     bound: u64,
@@ -68,22 +68,6 @@ fn with_taps(
     ensures { λ r. ⌜ Changes (stagesOf plan) (bound * divisor (stagesOf plan)) p change (now (results .entry)) (editAnswer r) (r .count) (now (results .exit)) ⌝ }
 {
     taps::inner::taps_into(plan, taps, other);
-    let reach = taps.len() - 1;
-    let start = plan::inner::reach_start(p, reach);
-    let end = plan::inner::reach_end(results.len(), p, reach);
     let limit = plan::inner::scaled(bound, plan);
-    let answer = gains::result_refusal(taps, limit, p, change, results, start, end);
-    if answer.number != 0 {
-        return Edited {
-            number: answer.number,
-            position: answer.position,
-            count: 0,
-        };
-    }
-    gains::add_gains(taps, p, change, results, start, end);
-    Edited {
-        number: 0,
-        position: 0,
-        count: gains::count(change, start, end),
-    }
+    gains::edit_by(taps, limit, p, change, results)
 }

@@ -1,58 +1,60 @@
+-- An accepted plan has no more taps than there is room for.
+use Prim.Native.Nat.{_<_}
+use mathlib.Core.Path.{_≡_, _∙_}
+use native.Mathlib.Omega.{arith}
 use borrow.Author.Needs.{needs}
+use lib.ListN.{length, length-take}
+use mir.Facts.{toZ-ofZ}
+use Rattle.meaning.specs.Kernel.{reach}
+use Rattle.theory.specs.Accepted.{length-accepted}
+use Rattle.theory.specs.Farthest.{reach-most}
+use Rattle.plan.specs.Structs.{stageOf, stagesOf}
 use Rattle.edit.proofs.holding.with_room.Statement.{statement}
 use Rattle.edit.proofs.holding.with_room.Tie as tie
-use Rattle.edit.proofs.holding.with_room.Reads as reads
-use Rattle.edit.proofs.holding.with_room.Lts as lts
-use Rattle.edit.proofs.holding.with_taps.Reads as with-taps-reads
-use Rattle.taps.proofs.inner.tap_count.Reads as tap-count-reads
 
--- src/holding.rt:44:9
 tap-count-requires : tie.Need-tap-count-requires
-tap-count-requires c κs = ?
+tap-count-requires c κs = length-accepted (c .pre .0 .common)
 
--- src/holding.rt:51:9
+few : (c : tie.After-tap-count) → c .tap-count .result < 4098
+few c = let p = c .before .args .plan in omega (arith, c .tap-count .ensures, reach-most (p .passes) (stageOf p) (length-accepted (c .before .pre .0 .common)))
+
 sub-with-taps : tie.Need-sub-with-taps
 sub-with-taps c = search needs
 
--- src/holding.rt:51:9
 part-with-taps-start : tie.Need-part-with-taps-start
 part-with-taps-start c = search needs
 
--- src/holding.rt:51:9
 part-with-taps-end : tie.Need-part-with-taps-end
-part-with-taps-end c = ?
+part-with-taps-end c = omega (arith, few (c .before), c .before .before .pre .1)
 
--- src/holding.rt:52:9
 sub-with-taps-2 : tie.Need-sub-with-taps-2
 sub-with-taps-2 c = search needs
 
--- src/holding.rt:52:9
 part-with-taps-start-2 : tie.Need-part-with-taps-start-2
 part-with-taps-start-2 c = search needs
 
--- src/holding.rt:52:9
 part-with-taps-end-2 : tie.Need-part-with-taps-end-2
-part-with-taps-end-2 c = ?
+part-with-taps-end-2 c = omega (arith, few (c .before .before), c .before .before .before .pre .1)
 
--- src/holding.rt:45:5
 with-taps-requires : tie.Need-with-taps-requires
-with-taps-requires c κs = ?
+with-taps-requires c κs =
+    let s = c .before .before .before .before in
+    let t = c .before .before .before in
+    (rw (toZ-ofZ (s .fits .change)) (s .pre .0), (simp length-take (omega (arith, t .tap-count .ensures, few t, s .pre .1)), simp length-take (omega (arith, t .tap-count .ensures, few t, s .pre .1))))
 
--- src/holding.rt:31:1
 same-length : tie.Need-same-length
 same-length c = search needs
 
--- src/holding.rt:31:1
 same-length-2 : tie.Need-same-length-2
 same-length-2 c = search needs
 
--- src/holding.rt:31:1
 same-length-3 : tie.Need-same-length-3
 same-length-3 c = search needs
 
--- src/holding.rt:31:1
 returns : tie.Need-returns
-returns c = ?
+returns c =
+    let s = c .before .before .before .before .before .before .before .before in
+    rw (toZ-ofZ (s .fits .change)) at (c .before .before .before .with-taps .ensures)
 
 pub with-room-spec : {M : Type 1} → statement M
 with-room-spec =

@@ -1,97 +1,51 @@
+-- The taps are the plan's, so an edit by them is the definition's.
+use Prim.Native.Nat.{_+_, _*_}
+use mathlib.Core.Path.{_≡_, sym, _∙_, ap}
+use native.Mathlib.Omega.{arith}
 use borrow.Author.Needs.{needs}
+use lib.ListN.{length}
+use mir.Facts.{toZ-ofZ}
+use Rattle.meaning.specs.Kernel.{divisor}
+use Rattle.theory.specs.Accepted.{length-accepted}
+use Rattle.plan.specs.Structs.{stagesOf}
+use Rattle.plan.specs.Capped.{capped-below}
+use Rattle.plan.specs.Tested.{allowed-tested}
+use Rattle.edit.specs.Steps.{gainable, changes-held}
 use Rattle.edit.proofs.holding.with_taps.Statement.{statement}
 use Rattle.edit.proofs.holding.with_taps.Tie as tie
-use Rattle.edit.proofs.holding.with_taps.Reads as reads
-use Rattle.edit.proofs.holding.with_taps.Lts as lts
-use Rattle.edit.proofs.gains.add_gains.Reads as add-gains-reads
-use Rattle.edit.proofs.gains.count.Reads as count-reads
-use Rattle.edit.proofs.gains.result_refusal.Reads as result-refusal-reads
-use Rattle.plan.proofs.inner.reach_end.Reads as reach-end-reads
-use Rattle.plan.proofs.inner.reach_start.Reads as reach-start-reads
-use Rattle.plan.proofs.inner.scaled.Reads as scaled-reads
-use Rattle.taps.proofs.inner.taps_into.Reads as taps-into-reads
 
--- src/holding.rt:70:5
 taps-into-requires : tie.Need-taps-into-requires
-taps-into-requires c κs = ?
+taps-into-requires c κs =
+    let s = c .before .before in
+    record { accepted = length-accepted (s .pre .0 .common); same = s .pre .1 .1 ∙ sym (s .pre .1 .0); enough = omega (arith, s .pre .1 .0) }
 
--- src/holding.rt:71:17
-sub-reach : tie.Need-sub-reach
-sub-reach c = search needs
-
--- src/holding.rt:72:9
-reach-start-requires : tie.Need-reach-start-requires
-reach-start-requires c κs = search needs
-
--- src/holding.rt:73:9
-reach-end-requires : tie.Need-reach-end-requires
-reach-end-requires c κs = search needs
-
--- src/holding.rt:74:9
 scaled-requires : tie.Need-scaled-requires
-scaled-requires c κs = ?
+scaled-requires c κs = let s = c .before .before .before .before .before in allowed-tested (s .args .plan) (s .pre .0 .common .plan)
 
--- src/holding.rt:75:9
-result-refusal-requires : tie.Need-result-refusal-requires
-result-refusal-requires c κs = ?
+limit-is : (c : tie.After-scaled) → let a = c .before .before .before .before .before .before .args in c .scaled .result ≡ a .bound * divisor (stagesOf (a .plan))
+limit-is c =
+    let s = c .before .before .before .before .before .before in
+    sym (capped-below (s .args .bound * divisor (stagesOf (s .args .plan))) (c .scaled .result) (sym (c .scaled .ensures)) (s .pre .0 .common .product))
 
--- src/holding.rt:77:9
+edit-by-requires : tie.Need-edit-by-requires
+edit-by-requires c κs =
+    let s = c .before .before .before .before .before .before .before .before in
+    (rw (limit-is (c .before .before)) (s .pre .0 .common .product), omega (arith, s .pre .1 .0), rw (toZ-ofZ (s .fits .change)) (gainable (stagesOf (s .args .plan)) (s .args .bound) (s .args .p) (s .args .change) (s .args .results .now) (s .pre .0) _ (c .before .before .before .before .before .taps-into .ensures)))
+
 same-length : tie.Need-same-length
 same-length c = search needs
 
--- src/holding.rt:77:9
 same-length-2 : tie.Need-same-length-2
 same-length-2 c = search needs
 
--- src/holding.rt:77:9
 same-length-3 : tie.Need-same-length-3
 same-length-3 c = search needs
 
--- src/holding.rt:77:9
 returns : tie.Need-returns
-returns c = ?
-
--- src/holding.rt:83:5
-add-gains-requires : tie.Need-add-gains-requires
-add-gains-requires c κs = ?
-
--- src/holding.rt:87:16
-count-requires : tie.Need-count-requires
-count-requires c κs = search needs
-
--- src/holding.rt:57:1
-same-length-4 : tie.Need-same-length-4
-same-length-4 c = search needs
-
--- src/holding.rt:57:1
-same-length-5 : tie.Need-same-length-5
-same-length-5 c = search needs
-
--- src/holding.rt:57:1
-same-length-6 : tie.Need-same-length-6
-same-length-6 c = search needs
-
--- src/holding.rt:57:1
-returns-2 : tie.Need-returns-2
-returns-2 c = ?
+returns c =
+    let s = c .before .before .before .before .before .before .before .before .before .before in
+    changes-held (stagesOf (s .args .plan)) (s .args .bound) (s .args .p) (s .args .change) (s .args .results .now) (s .pre .0) _ (c .before .before .before .before .before .before .before .taps-into .ensures) (omega (arith, s .pre .1 .0)) (rw (limit-is (c .before .before .before .before), toZ-ofZ (s .fits .change)) at (c .before .edit-by .ensures))
 
 pub with-taps-spec : {M : Type 1} → statement M
 with-taps-spec =
-    tie.close
-    (tie.spec
-    taps-into-requires
-    sub-reach
-    reach-start-requires
-    reach-end-requires
-    scaled-requires
-    result-refusal-requires
-    same-length
-    same-length-2
-    same-length-3
-    returns
-    add-gains-requires
-    count-requires
-    same-length-4
-    same-length-5
-    same-length-6
-    returns-2)
+    tie.close (tie.spec taps-into-requires scaled-requires edit-by-requires same-length same-length-2 same-length-3 returns)
