@@ -1,12 +1,12 @@
-// Cases of calls 3 and 4: edit and point, which ask for one position and for twice as much work.
+// Cases of call 3: an edit, which asks for one position and for twice as much work.
 import { divisorOf, seriesResults } from './smoothing.mjs';
 import {
-  EIGHT, LARGE, LARGE_BOUND, LARGE_MOST, LARGEST_I64, LARGEST_U64, LEAST_I32, LEAST_I64, MOST_BOUND, ONE, THREE, WIDEST,
-  anySamples, anySeries, chance, filled, junk, plan, times,
+  EIGHT, FARTHEST, LARGE, LARGE_BOUND, LARGE_MOST, LARGEST_I64, LEAST_I32, LEAST_I64, LONG_SERIES, MOST_BOUND, ONE,
+  SEVENS, THREE, WIDE_LIMITS, WIDEST, WIDEST_BOUND, WIDEST_MOST,
+  anySamples, anySeries, chance, filled, junk, largestBound, plan, times,
 } from './inputs.mjs';
-import { EMPTY_SERIES, SAMPLE_FAULTS, SERIES_LIMITS, fault, faultCases, lengthFaults, put } from './faults.mjs';
-
-// Call 3.
+import { EMPTY_SERIES, POSITION_FAULTS, SERIES_LIMITS, fault, faultCases, lengthFaults, put } from './faults.mjs';
+import { chainCases } from './cases-chains.mjs';
 
 function editCase(note, chosen, bound, [position, value], samples, results, more = {}) {
   const work = filled(2 * samples.length, -7);
@@ -29,7 +29,7 @@ const TRUE_EDITS = [
   trueEdit('identity', ONE, MOST_BOUND, [1, -MOST_BOUND], [1, MOST_BOUND, 3]),
   trueEdit('reach above length, first', plan(5, 3, 2, 2), 9, [0, 4], [9, -1, 2]),
   trueEdit('reach above length, last', plan(5, 3, 2, 2), 9, [2, 4], [9, -1, 2]),
-  trueEdit('widest reach', WIDEST, 31, [1, -31], [31, 31, -31, 0]),
+  trueEdit('widest reach', WIDEST, WIDEST_BOUND, [1, -WIDEST_BOUND], [31, 31, -31, 0]),
   trueEdit('reach without edge weight', plan(1, 1, 0, 2), 9, [4, 5], [0, 0, 0, 0, 0, 0, 0, 0, 0]),
   trueEdit('reach with edge weight', plan(1, 2, 1, 2), 9, [4, 5], [0, 0, 0, 0, 0, 0, 0, 0, 0]),
   trueEdit('old equals new', EIGHT, 9, [1, 4], [9, 4, 0]),
@@ -75,14 +75,95 @@ const STORED_EDITS = [
     filled(65_537, 99), LONGEST_WORK),
 ];
 
+// Every position of series shorter than the reach and longer.
+const EVERY_POSITION = [
+  [EIGHT, [9, 1, 2, 3, 4]], [plan(5, 3, 2, 2), [9, -1, 2]], [SEVENS, [7, -5]], [plan(2, 1, 0, 2), [1, -9, 0, 9]],
+].flatMap(([chosen, samples]) => times(samples.length, (p) => (
+  trueEdit(`position ${p} of ${samples.length}`, chosen, 10, [p, samples[p] > 0 ? -10 : 10], samples))));
+
+const ONE_SAMPLE = [ONE, plan(0, 2, 1, 8), plan(7, 3, 0, 2), SEVENS, WIDEST, plan(1023, 255, 254, 1)].map((chosen) => {
+  const bound = Number(largestBound(chosen));
+  return trueEdit('one sample, largest bound', chosen, bound, [0, -bound], [bound]);
+});
+
+// The old sample alone is tested for 11, and the new value by itself for 10.
+const VALUES = [
+  editCase('old sample bad, first', THREE, 10, [0, 4], [11, 0, 0], [0, 0, 0]),
+  editCase('old sample bad, last', THREE, 10, [2, 4], [0, 0, -11], [0, 0, 0]),
+  editCase('old sample bad, and others', THREE, 10, [1, 4], [99, 11, -99], [0, 0, 0]),
+  editCase('old sample bad as the new value is', THREE, 10, [1, 11], [0, 11, 0], [0, 0, 0]),
+  editCase('all samples bad but the old one', THREE, 10, [1, 4], [LEAST_I32, -10, MOST_BOUND], [0, 0, 0]),
+  editCase('from the bound to minus the bound', THREE, 10, [1, -10], [0, 10, 0], [0, 0, 0]),
+  editCase('from minus the bound to the bound', THREE, 10, [1, 10], [0, -10, 0], [0, 0, 0]),
+  editCase('value 2^31 under the largest bound', ONE, MOST_BOUND, [0, 2 ** 31], [1], [1]),
+  editCase('value -2^31 under the largest bound', ONE, MOST_BOUND, [0, LEAST_I32], [1], [1]),
+  editCase('old sample -2^31 under the largest bound', ONE, MOST_BOUND, [0, 1], [LEAST_I32], [1]),
+  editCase('value 2^32 and the old sample', THREE, 10, [1, 2 ** 32 + 3], [0, 3, 0], [0, 0, 0]),
+  editCase('value -2^32 and a good one', THREE, 10, [1, -(2 ** 32) + 3], [0, 2, 0], [0, 0, 0]),
+  editCase('old equals new at the bound', THREE, 10, [2, 10], [0, 0, 10], [-30, 30, -30]),
+  editCase('old equals new at minus the bound', LARGE, LARGE_BOUND, [0, -LARGE_BOUND], [-LARGE_BOUND, 1],
+    [-LARGE_MOST, LARGE_MOST]),
+  editCase('old equals new, one sample', THREE, 10, [0, 7], [7], [-4], { work: [LARGEST_I64, LEAST_I64] }),
+  editCase('old equals new, -9 at the reach', EIGHT, 1, [4, 1], [0, 0, 0, 0, 1], [0, 0, -9, 0, 0]),
+];
+
+// The first result within reach that is, or would be, too large. Below it there are larger ones past the reach.
+const FIRST_REFUSED = [
+  editCase('first of three within reach', THREE, 10, [2, 1], [0, 0, 0, 0, 0], [99, 31, 31, 31, 99]),
+  editCase('last of three within reach', THREE, 10, [2, 1], [0, 0, 0, 0, 0], [99, 0, 0, 31, 99]),
+  editCase('last of three only after', THREE, 10, [2, 1], [0, 0, 0, 0, 0], [99, 29, 29, 30, 99]),
+  editCase('middle of three only after, downward', THREE, 10, [2, -1], [0, 0, 0, 0, 0], [-99, 30, -30, 30, -99]),
+  editCase('from -30 to 30', THREE, 10, [0, 10], [-10], [-30]),
+  editCase('-29 would be 31', THREE, 10, [0, 10], [-10], [-29]),
+  editCase('largest product: 1 too many below after', LARGE, LARGE_BOUND, [1, -1], [0, 0], [0, -LARGE_MOST]),
+  editCase('largest product: 1 too many below before', LARGE, LARGE_BOUND, [1, 1], [0, 0], [0, -LARGE_MOST - 1n]),
+  editCase('largest product: from either end inward', LARGE, LARGE_BOUND, [1, 0], [0, 1],
+    [LARGE_MOST, 8n ** 8n - LARGE_MOST]),
+];
+
+// About the edges of the reach of a plan: extremes past it stay, and a result one too large at it is refused.
+const FAR = [
+  editCase('4,096 samples, all within reach', WIDEST, WIDEST_BOUND, [0, -31], filled(4_096, 31), filled(4_096, 5)),
+  editCase('4,097 samples, all within reach', WIDEST, WIDEST_BOUND, [4_096, 30], filled(4_097, -1), filled(4_097, -5)),
+  editCase('4,098 samples, last past reach', WIDEST, WIDEST_BOUND, [0, -31], filled(4_098, 31),
+    filled(4_098, 5).with(4_097, LARGEST_I64)),
+  editCase('4,098 samples, first past reach', WIDEST, WIDEST_BOUND, [4_097, -30], filled(4_098, 31),
+    filled(4_098, 5).with(0, LEAST_I64)),
+  editCase('8,195 samples, both ends past reach', WIDEST, WIDEST_BOUND, [4_097, 31], filled(8_195, -31),
+    filled(8_195, -7).with(0, LEAST_I64).with(8_194, LARGEST_I64)),
+  editCase('4,097 samples, last at reach too large', WIDEST, WIDEST_BOUND, [0, -31], filled(4_097, 31),
+    filled(4_097, 5).with(4_096, WIDEST_MOST + 1n)),
+  editCase('4,097 samples, first at reach would be too large', WIDEST, WIDEST_BOUND, [4_096, 31], filled(4_097, 30),
+    filled(4_097, 5).with(0, WIDEST_MOST)),
+  editCase('4,097 samples, first at reach as large as allowed', WIDEST, WIDEST_BOUND, [4_096, 31], filled(4_097, 30),
+    filled(4_097, 5).with(0, WIDEST_MOST - 1n)),
+  editCase('4,094 samples, edge weight 0, last past reach', plan(1023, 1, 0, 4), 512, [0, -512], filled(4_094, 512),
+    filled(4_094, 5).with(4_093, LARGEST_I64)),
+  ...[15, 16, 784, 785].map((n) => editCase(`800 samples, eight passes, extreme ${Math.abs(400 - n)} away`, FARTHEST, 1,
+    [400, -1], filled(800, 1), filled(800, 5).with(n, LEAST_I64))),
+];
+
+const WIDE = WIDE_LIMITS.map((each) => editCase(each.note, each.plan, each.bound, [1, 0], [1, -1], [2, -2]));
+
+// A series of equal samples, whose smoothing is the divisor times one of them. The largest bound of all is the
+// checksum's modulus, in which samples of that size would count for nothing.
+function longEdits() {
+  const below = chance(113);
+  return LONG_SERIES.map(([note, length, chosen], n) => {
+    const bound = Math.min(Number(largestBound(chosen)), MOST_BOUND - 1);
+    const [old] = anySamples(below, 1, bound);
+    const position = [0, length - 1, below(length), Math.floor(length / 2)][n % 4];
+    return editCase(`${length} samples, ${note}`, chosen, bound, [position, old > 0 ? -bound : bound],
+      filled(length, old), filled(length, BigInt(old) * divisorOf(chosen)));
+  });
+}
+
 function editFaults() {
   const samples = [3, -10, 10, 0];
   const good = editCase('', EIGHT, 10, [2, -4], samples, [1, -2, 3, -40]).args;
   return faultCases(3, good, [
     ...SERIES_LIMITS, EMPTY_SERIES, ...lengthFaults('results'), ...lengthFaults('work'),
-    fault(9, 'position as length', () => ({ position: 4 })),
-    fault(9, 'position 2^63', () => ({ position: 2n ** 63n })),
-    fault(9, 'position largest', () => ({ position: LARGEST_U64 })),
+    ...POSITION_FAULTS,
     fault(10, 'value above', (args) => ({ value: BigInt(args.bound) + 1n })),
     fault(10, 'value below', (args) => ({ value: -BigInt(args.bound) - 1n })),
     fault(10, 'value largest', () => ({ value: LARGEST_I64 })),
@@ -107,59 +188,10 @@ function chosenEdit(below, n) {
 
 function editCases() {
   const below = chance(103);
-  return [...TRUE_EDITS, ...STORED_EDITS, ...editFaults(), ...times(40, (n) => chosenEdit(below, n))];
+  return [
+    ...TRUE_EDITS, ...STORED_EDITS, ...EVERY_POSITION, ...ONE_SAMPLE, ...VALUES, ...FIRST_REFUSED, ...FAR, ...WIDE,
+    ...editFaults(), ...times(40, (n) => chosenEdit(below, n)), ...longEdits(), ...chainCases(),
+  ];
 }
 
-// Call 4.
-
-function pointCase(note, chosen, bound, position, samples, work = filled(2 * samples.length, -7)) {
-  return { note, args: { plan: chosen, bound, position, samples, work } };
-}
-
-const POINT_EDGES = [
-  ...times(3, (n) => pointCase('example', EIGHT, 8, n, [8, 0, 0])),
-  ...times(5, (n) => pointCase('example', plan(1, 1, 0, 2), 9, n, [0, 0, 9, 0, 0])),
-  pointCase('one sample', plan(2, 3, 1, 2), 9, 0, [-9]),
-  pointCase('one sample, heaviest weights', plan(1023, 255, 254, 1), MOST_BOUND, 0, [MOST_BOUND]),
-  pointCase('no finite binary fraction', THREE, 9, 1, [1, 0, 0]),
-  pointCase('sum 0 gives plus zero', THREE, 9, 1, [-4, 0, 4]),
-  pointCase('all zero', THREE, 9, 0, [0, 0]),
-  pointCase('widest reach', WIDEST, 31, 2, [31, -31, 0, 7, 8]),
-  pointCase('largest product', LARGE, LARGE_BOUND, 1, [LARGE_BOUND, LARGE_BOUND, -LARGE_BOUND]),
-  pointCase('bad samples just past reach', THREE, 9, 2, [10, 1, 2, 3, LEAST_I32]),
-  pointCase('bad sample at reach, below', THREE, 9, 2, [10, 10, 2, 3, LEAST_I32]),
-  pointCase('bad sample at reach, above', THREE, 9, 2, [10, 1, 2, -10, LEAST_I32]),
-  pointCase('bad sample itself', THREE, 9, 2, [10, 1, LEAST_I32, -10, 0]),
-  pointCase('past reach, edge weight 0, two passes', plan(1, 2, 0, 2), 9, 0, [1, 2, 3, 10, 10]),
-  pointCase('at reach, edge weight 1, two passes', plan(1, 2, 1, 2), 9, 0, [1, 2, 3, 4, 10]),
-  pointCase('past reach, radius 0', plan(0, 2, 0, 8), 9, 1, [10, -9, 10]),
-  pointCase('at reach, radius 0 with edge weight', plan(0, 2, 1, 1), 9, 1, [9, -9, 10]),
-  pointCase('reach above length, last sample bad', plan(5, 2, 1, 1), 9, 0, [9, -9, 0, 10]),
-  pointCase('work as long as for smoothing', THREE, 9, 0, [1, 2], [4, 5]),
-  pointCase('extremes in work', THREE, 9, 0, [1], [LEAST_I64, LARGEST_I64]),
-  pointCase('65 samples', THREE, 9, 64, times(65, (n) => n % 10)),
-  pointCase('65,536 samples', EIGHT, 9, 65_535, [...filled(65_530, 9), ...filled(6, -2)]),
-  pointCase('65,537 samples, none acceptable', EIGHT, 9, 65_536, filled(65_537, 10), LONGEST_WORK.work),
-];
-
-function pointFaults() {
-  const good = pointCase('', EIGHT, 10, 1, [3, -10, 10, 0]).args;
-  return faultCases(4, good, [
-    ...SERIES_LIMITS, fault(7, 'no samples', () => ({ samples: [], work: [] })), ...lengthFaults('work'),
-    fault(9, 'position as length', () => ({ position: 4 })),
-    fault(9, 'position 2^63', () => ({ position: 2n ** 63n })),
-    fault(9, 'position largest', () => ({ position: LARGEST_U64 })),
-    ...SAMPLE_FAULTS,
-  ]);
-}
-
-function pointCases() {
-  const below = chance(104);
-  const chosen = times(40, (n) => {
-    const { plan: each, bound, samples, length } = anySeries(below, n);
-    return pointCase('chosen', each, bound, below(length), samples, junk(below, 2 * length));
-  });
-  return [...POINT_EDGES, ...pointFaults(), ...chosen];
-}
-
-export const casesOfEdits = { 3: editCases, 4: pointCases };
+export const casesOfEdits = { 3: editCases };

@@ -1,8 +1,8 @@
 // Cases of calls 1 and 2: smoothing a series and a picture.
 import { divisorOf } from './smoothing.mjs';
 import {
-  EIGHT, EXACT, EXACT_BOUND, FIVE, LARGE, LARGE_BOUND, LARGEST_I64, LEAST_I32, LEAST_I64, MOST_BOUND, ONE, THREE,
-  WIDEST,
+  EIGHT, EXACT, EXACT_BOUND, FIVE, LARGE, LARGE_BOUND, LARGEST_I64, LEAST_I32, LEAST_I64, LONG_SERIES, MOST_BOUND, ONE,
+  THREE, WIDE_LIMITS, WIDEST,
   anyBound, anyPlan, anySamples, anySeries, chance, filled, junk, largestBound, plan, times,
 } from './inputs.mjs';
 import {
@@ -85,35 +85,14 @@ const SERIES_EDGES = [
   seriesCase('word 2^31 as a sample', THREE, MOST_BOUND, [1, 2 ** 31]),
 ];
 
-// Numbers that could pass if they were cut to 32 bits or read with a sign.
-const SERIES_WIDE = [2n ** 32n + 1n, 2n ** 63n].flatMap((wide) => [
-  ...Object.keys(EIGHT).map((field) => seriesCase(`${field} ${wide}`, { ...EIGHT, [field]: wide }, 9, [5, -3])),
-  seriesCase(`bound ${wide}`, EIGHT, wide, [1, -1]),
-]);
+const SERIES_WIDE = WIDE_LIMITS.map((each) => seriesCase(each.note, each.plan, each.bound, [1, -1]));
 
 // Windows below, about and above the period of the extension.
 const SERIES_WINDOWS = [[9], [50, -7], [50, -7, 3]].flatMap((samples) => times(8, (radius) => (
   seriesCase(`radius ${radius}`, plan(radius, 3, 2, 1), 50, samples))));
 
-// Long series of varied samples. The period of the extension is twice the length, so that no window, which is odd, is
-// exactly it: there are the two next to it, and one with a whole period on either side of its centre.
-const LONG_SERIES = [
-  ['radius far below the length', 100, plan(5, 3, 1, 8)],
-  ['radius far below the length', 399, plan(16, 2, 1, 8)],
-  ['radius far below the length', 256, plan(48, 1, 0, 8)],
-  ['radius far below the length', 350, plan(12, 4, 3, 7)],
-  ['heaviest weights', 310, plan(120, 255, 254, 3)],
-  ['reach above the length', 200, plan(120, 20, 7, 4)],
-  ['window one below the length', 130, plan(64, 7, 3, 2)],
-  ['window as the length', 129, plan(64, 1, 0, 5)],
-  ['window one below the period', 101, plan(100, 5, 4, 1)],
-  ['window one above the period', 101, plan(101, 2, 0, 3)],
-  ['window one above the period', 117, plan(117, 1, 0, 6)],
-  ['radius as the period', 65, plan(130, 3, 1, 2)],
-  ['radius three above the period', 70, plan(143, 2, 1, 4)],
-];
-
-// The largest bound of all is the checksum's modulus, in which samples of that size would count for nothing.
+// Long series of varied samples. The largest bound of all is the checksum's modulus, in which samples of that size
+// would count for nothing.
 function longSeriesCases() {
   const below = chance(111);
   return LONG_SERIES.map(([note, length, chosen]) => {

@@ -2,6 +2,7 @@
 // refusal, every pair of refusals, and chosen inputs. A case is a note and the arguments by name.
 import { casesOfSmoothing } from './cases-smoothing.mjs';
 import { casesOfEdits } from './cases-edits.mjs';
+import { casesOfPoints } from './cases-points.mjs';
 import { casesOfOutputs } from './cases-outputs.mjs';
 import { casesOfRecords } from './cases-records.mjs';
 import { casesOfPlans } from './cases-plans.mjs';
@@ -28,7 +29,9 @@ export const NUMBERS_GIVEN = {
   14: [0, 7, 8],
 };
 
-const CASES = { ...casesOfSmoothing, ...casesOfEdits, ...casesOfOutputs, ...casesOfRecords, ...casesOfPlans };
+const CASES = {
+  ...casesOfSmoothing, ...casesOfEdits, ...casesOfPoints, ...casesOfOutputs, ...casesOfRecords, ...casesOfPlans,
+};
 
 // The cases of a call: a note and the call's words.
 export function casesOf(call) {

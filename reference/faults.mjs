@@ -85,6 +85,13 @@ export const SAMPLE_FAULTS = [
   fault(11, 'least 32-bit sample', put('samples', 2, LEAST_I32)),
 ];
 
+export const POSITION_FAULTS = [
+  fault(9, 'position as length', ({ samples }) => ({ position: samples.length })),
+  fault(9, 'position 2^32 + 1', () => ({ position: 2n ** 32n + 1n })),
+  fault(9, 'position 2^63', () => ({ position: 2n ** 63n })),
+  fault(9, 'position largest', () => ({ position: LARGEST_U64 })),
+];
+
 export const EMPTY_SERIES = fault(7, 'no samples', () => ({ samples: [], results: [], work: [] }));
 
 function spoilt(args, faults) {

@@ -26,12 +26,41 @@ export const LARGE = plan(1, 2, 1, 8);
 export const LARGE_BOUND = 536_870_911;
 export const LARGE_MOST = BigInt(LARGE_BOUND) * divisorOf(LARGE);
 
-// The plan of the widest reach.
+// The plan of the widest reach, 4,096, with the largest bound it allows and the largest size of a result.
 export const WIDEST = plan(1023, 2, 1, 4);
+export const WIDEST_BOUND = 31;
+export const WIDEST_MOST = BigInt(WIDEST_BOUND) * divisorOf(WIDEST);
+
+// The plan of the farthest reach with eight passes, 384. It allows no bound but 1.
+export const FARTHEST = plan(48, 1, 0, 8);
 
 // Two plans of a picture whose divisors times this bound are 2^53 - 1 exactly. No plan of a series meets it.
 export const EXACT = [plan(12, 251, 43, 1), plan(135, 255, 163, 1)];
 export const EXACT_BOUND = 20_394_401;
+
+// Plans and bounds with a number that could pass if it were cut to 32 bits or read with a sign.
+export const WIDE_LIMITS = [2n ** 32n + 1n, 2n ** 63n].flatMap((wide) => [
+  ...Object.keys(EIGHT).map((field) => ({ note: `${field} ${wide}`, plan: { ...EIGHT, [field]: wide }, bound: 9 })),
+  { note: `bound ${wide}`, plan: EIGHT, bound: wide },
+]);
+
+// Lengths of long series and plans for them. The period of the extension is twice the length, so that no window, which
+// is odd, is exactly it: there are the two next to it, and one with a whole period on either side of its centre.
+export const LONG_SERIES = [
+  ['radius far below the length', 100, plan(5, 3, 1, 8)],
+  ['radius far below the length', 399, plan(16, 2, 1, 8)],
+  ['radius far below the length', 256, FARTHEST],
+  ['radius far below the length', 350, plan(12, 4, 3, 7)],
+  ['heaviest weights', 310, plan(120, 255, 254, 3)],
+  ['reach above the length', 200, plan(120, 20, 7, 4)],
+  ['window one below the length', 130, plan(64, 7, 3, 2)],
+  ['window as the length', 129, plan(64, 1, 0, 5)],
+  ['window one below the period', 101, plan(100, 5, 4, 1)],
+  ['window one above the period', 101, plan(101, 2, 0, 3)],
+  ['window one above the period', 117, plan(117, 1, 0, 6)],
+  ['radius as the period', 65, plan(130, 3, 1, 2)],
+  ['radius three above the period', 70, plan(143, 2, 1, 4)],
+];
 
 export function times(count, make) {
   return Array.from({ length: count }, (_, n) => make(n));

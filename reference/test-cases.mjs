@@ -1,8 +1,9 @@
 // The cases against what their notes say.
 import { applies } from './applies.mjs';
 import { casesOf } from './cases.mjs';
+import { seriesResults } from './smoothing.mjs';
 import { CALLS, decoded } from './stream.mjs';
-import { holds, same } from './testing.mjs';
+import { holds, same, text } from './testing.mjs';
 
 // A case `A before B` is answered A, and B applies to it as well.
 function overlapFacts(name, cases) {
@@ -22,10 +23,44 @@ function differentFacts(name, cases) {
   same(`${name}: different cases`, different.size, named.length);
 }
 
+// An edit of a chain is lent what the last one that was done left. Where the first is lent a smoothing, each leaves one.
+function chainFacts(cases) {
+  let left;
+  let isSmoothing;
+  for (const { note, words } of cases.filter(({ note: each }) => each.startsWith('chain:'))) {
+    const { args, outcome } = decoded(words);
+    const smoothing = ({ samples }) => seriesResults(args.plan, samples);
+    if (note.endsWith(', edit 1')) {
+      left = args;
+      isSmoothing = text(args.results) === text(smoothing(args));
+    }
+    if (args.samples.length > 0) same(`${note}: lent`, [args.samples, args.results], [left.samples, left.results]);
+    if (outcome.number !== 0n) continue;
+    if (isSmoothing) same(`${note}: left`, outcome.results, smoothing(outcome));
+    left = outcome;
+  }
+}
+
+// Points that differ past the reach alone get the same answer.
+function alikeFacts(cases) {
+  const answers = new Map();
+  for (const { note, words } of cases) {
+    const [, within] = note.match(/^(.*), \S+ past it$/) ?? [];
+    if (within === undefined) continue;
+    const { number, position, value } = decoded(words).outcome;
+    const answer = [number, position, value];
+    same(`point, ${note}`, answer, answers.get(within) ?? answer);
+    answers.set(within, answer);
+  }
+  holds('points that differ past the reach', answers.size > 0);
+}
+
 export function testCases() {
   for (const [call, { name }] of Object.entries(CALLS)) {
     const cases = casesOf(call);
     overlapFacts(name, cases);
     differentFacts(name, cases);
   }
+  chainFacts(casesOf(3));
+  alikeFacts(casesOf(4));
 }

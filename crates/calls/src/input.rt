@@ -20,6 +20,10 @@ pub(crate) fn byte(open: &mut bool) -> u8 {
     (word(open) % 256) as u8
 }
 
+pub(crate) fn whole(open: &mut bool) -> i64 {
+    whole_of(word(open))
+}
+
 pub(crate) fn plan(open: &mut bool) -> Plan {
     let radius = word(open);
     let inner = word(open);
@@ -45,7 +49,7 @@ pub(crate) fn wholes(open: &mut bool, room: &mut [i64]) -> usize
 {
     let count = length(open, room.len());
     for i in 0..count {
-        room[i] = whole_of(word(open));
+        room[i] = whole(open);
     }
     count
 }

@@ -2,6 +2,7 @@
 ghost use Prim.Native.Nat.{_≤_};
 ghost use lib.ListN.{length};
 
+mod edits;
 mod input;
 mod output;
 mod plans;
@@ -40,6 +41,8 @@ fn one_call(samples: &mut [i32], results: &mut [i64], work: &mut [i64], bytes: &
     let mut open = true;
     match input::word(&mut open) {
         1 => smoothing::smooth_series(&mut open, samples, results, work),
+        3 => edits::edit_series(&mut open, samples, results, work),
+        4 => edits::point(&mut open, samples, work),
         13 => records::read_record(&mut open, bytes),
         14 => records::write_record(&mut open, samples, bytes, work),
         100 => plans::divisor_and_reach(&mut open),

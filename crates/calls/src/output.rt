@@ -29,13 +29,29 @@ pub(crate) fn number(n: u64) {
     io::print_decimal(STDOUT_FILENO, n);
 }
 
+// A double is printed as its bits. A NaN may have any of several, so its name stands for it.
+pub(crate) fn double(x: f64) {
+    if x == x {
+        number(f64::to_bits(x));
+    } else {
+        io::write_all(STDOUT_FILENO, b" nan");
+    }
+}
+
 pub(crate) fn wholes(values: &[i64]) {
     if values.len() > MOST_PRINTED {
-        io::write_all(STDOUT_FILENO, b" #");
-        number(values.len() as u64);
-        number(checksum(values));
+        in_short(values.len(), checksum(values));
     } else {
         elements(values);
+    }
+}
+
+// The same of samples.
+pub(crate) fn samples(values: &[i32]) {
+    if values.len() > MOST_PRINTED {
+        in_short(values.len(), sample_checksum(values));
+    } else {
+        sample_elements(values);
     }
 }
 
@@ -58,9 +74,22 @@ pub(crate) fn stop() {
     io::write_all(STDOUT_FILENO, b"stop\n");
 }
 
+// A long slice: its length and checksum.
+fn in_short(length: usize, checksum: u64) {
+    io::write_all(STDOUT_FILENO, b" #");
+    number(length as u64);
+    number(checksum);
+}
+
 fn elements(values: &[i64]) {
     for i in 0..values.len() {
         whole(values[i]);
+    }
+}
+
+fn sample_elements(values: &[i32]) {
+    for i in 0..values.len() {
+        whole(values[i] as i64);
     }
 }
 
@@ -79,6 +108,16 @@ fn checksum(values: &[i64]) -> u64
     let mut sum = 0;
     for i in 0..values.len() {
         sum = gain(sum, i, values[i]);
+    }
+    sum
+}
+
+fn sample_checksum(values: &[i32]) -> u64
+    ensures { λ r. ⌜ r ≡ checksumOf (now (values .entry)) ⌝ }
+{
+    let mut sum = 0;
+    for i in 0..values.len() {
+        sum = gain(sum, i, values[i] as i64);
     }
     sum
 }

@@ -1,0 +1,68 @@
+-- One element more, as wide as a result, adds its weighted remainder.
+use mathlib.Core.Path.{_≡_, _∙_, ap}
+use Prim.Native.Nat.{_-_, _≤_}
+use native.Mathlib.Omega.{arith}
+use borrow.Author.Needs.{needs, sfits-of}
+use lib.ListN.{length}
+use mir.Facts.{toZ-ofZ}
+use Rattle.calls.specs.Checksum.{checksumTo, checksum-below, checksum-none, checksum-more}
+use Rattle.calls.proofs.output.sample_checksum.Statement.{statement}
+use Rattle.calls.proofs.output.sample_checksum.Tie as tie
+
+abbrev Inv-loop : tie.InvT-loop
+Inv-loop values sum₀ i₀ i-end sum i = (i ≤ i-end) × (sum ≡ checksumTo values i)
+
+abbrev μ-loop : tie.MeasureT-loop
+μ-loop values sum₀ i₀ i-end sum i = i-end - i
+
+loop-holds : tie.Need-loop-holds Inv-loop μ-loop
+loop-holds c = (search needs, checksum-none (c .args .values .now))
+
+mul-gain : tie.Need-mul-gain Inv-loop μ-loop
+mul-gain c = search needs
+
+shared-slice-copy-out-gain : tie.Need-shared-slice-copy-out-gain Inv-loop μ-loop
+shared-slice-copy-out-gain c = search needs
+
+cast-gain : tie.Need-cast-gain Inv-loop μ-loop
+cast-gain c = rw (toZ-ofZ (sfits-of (c .gain-arg .given))) (record { sfits = omega (arith, c .gain-arg .given) })
+
+gain-requires : tie.Need-gain-requires Inv-loop μ-loop
+gain-requires c κs =
+    let f = c .before .before .before .args .values .now in
+    (omega (arith, checksum-below f (c .before .before .loop .i)), omega arith)
+
+add-i : tie.Need-add-i Inv-loop μ-loop
+add-i c = search needs
+
+loop-less : tie.Need-loop-less Inv-loop μ-loop
+loop-less c = search needs
+
+loop-again : tie.Need-loop-again Inv-loop μ-loop
+loop-again c =
+    let f = c .before .before .before .before .args .values .now in
+    let i = c .before .before .before .loop .i in
+    let earlier = c .before .before .before .loop .inv .1 in
+    (omega arith, checksum-more f i earlier (toZ-ofZ (cast-gain (c .before)) ∙ toZ-ofZ (sfits-of (c .before .gain-arg .given))) (c .gain .ensures))
+
+returns : tie.Need-returns Inv-loop μ-loop
+returns c =
+    let f = c .before .before .args .values .now in
+    let all : c .before .loop .i ≡ length f = omega arith in
+    c .before .loop .inv .1 ∙ ap (checksumTo f) all
+
+pub sample-checksum-spec : {M : Type 1} → statement M
+sample-checksum-spec =
+    tie.close
+    (tie.spec
+    Inv-loop
+    μ-loop
+    loop-holds
+    mul-gain
+    shared-slice-copy-out-gain
+    cast-gain
+    gain-requires
+    add-i
+    loop-less
+    loop-again
+    returns)
