@@ -1,32 +1,38 @@
 -- The steps of an edit, each over plain lists.
 --   Editable ss M p d r   what an edit of the results asks: the bounds of document 01, and a change of size up to twice the bound
--- Laws: gainable, changes-held (by taps that hold the kernel, the gains are the definition's).
+-- Laws: gainable, changes-held (by taps that hold the kernel, the gains are the definition's);
+-- position-inside, value-fits, change-fits, editable (what rows 1 to 11 leave); call-refused, call-too-large, call-done.
 use Prim.Native.Nat.{ℕ, _+_, _*_, _-_, _≤_, _<_}
-use mathlib.Core.Path.{_≡_, sym, _∙_, ap}
+use mathlib.Core.Path.{_≡_, refl, sym, _∙_, ap}
 use mathlib.Core.Bool.{_&&_, _||_}
 use mathlib.Core.List.{List, [], _∷_}
 use native.Mathlib.Decide.{decLe}
 use native.Mathlib.Omega.{arith}
-use lib.ListN.{length}
-use lib.IntN.{ℤ, pos, natAbs, _+ℤ_, _*ℤ_}
-use Rattle.algebra.specs.Size.{abs-weaken, abs-*}
+use lib.ListN.{length, set}
+use lib.IntN.{ℤ, pos, natAbs, _+ℤ_, _-ℤ_, _*ℤ_}
+use mir.Syntax.{w32, w64}
+use mir.Val.{SFits}
+use Rattle.algebra.specs.Size.{Abs, abs-weaken, abs--, abs-*, fits-abs}
 use Rattle.meaning.specs.Extension.{at, fold}
 use Rattle.meaning.specs.Kernel.{Stage, reach, divisor}
 use Rattle.meaning.specs.Smoothing.{weight, near, apart}
-use Rattle.meaning.specs.Refusals.{Answer, firstOf, rowAt, above, ifDone}
-use Rattle.meaning.specs.Calls.{gained}
+use Rattle.meaning.specs.Refusals.{Answer, firstOf, rowAt, above, ifDone, zeros}
+use Rattle.meaning.specs.Calls.{gained, editRows, editSeries}
 use Rattle.meaning.specs.Bounds.{AllowedLength}
 use Rattle.theory.specs.HalfSample.{half-sample}
 use Rattle.theory.specs.Lists.{listOf-ext}
 use Rattle.theory.specs.Sizes.{weight-size}
 use Rattle.theory.specs.Local.{near-no, near-within}
+use Rattle.theory.specs.Refusals.{refused-first, done-rest, ifDone-done, ifDone-refused}
+use Rattle.theory.specs.AcceptedEdits.{Begun}
 use Rattle.theory.specs.Places.{picked, rowAt-ext}
 use Rattle.theory.specs.Edits.{resultRow, gained-near, changed-is}
 use Rattle.theory.specs.Accepted.{inner-allowed, length-accepted}
 use Rattle.plan.specs.Span.{low, high}
 use Rattle.taps.specs.Taps.{Held, held-nonneg}
 use Rattle.taps.specs.Weigh.{weight-held}
-use Rattle.edit.specs.Contract.{Changes}
+use Rattle.edit.specs.Contract.{Gives, Changes, frontRows}
+use Rattle.edit.specs.Rows.{rows-parts, front-numbered, front-allowed}
 use Rattle.edit.specs.Gains.{gainIn, movedIn, gainedIn, refusedIn, Gainable, ChangesIn}
 
 pub record Editable (ss : List Stage) (M p : ℕ) (d : ℤ) (r : List ℤ) : Type 0 where
@@ -87,3 +93,45 @@ module _ (ss : List Stage) (M p : ℕ) (d : ℤ) (r : List ℤ) (ok : Editable s
         count = rw R at (h .count) ∙ ap (λ k. ifDone a k 0) (sym (changed-is half-sample (inner-allowed ss (ok .common .plan .stages)) p d r (ok .position)));
         results = rw R at (h .results) ∙ ap (λ new. ifDone a new r) gained-is;
       }
+
+-- ---- the ends of a call whose test of rows 1 to 11 answered a
+module _ (ss : List Stage) (M p : ℕ) (v : ℤ) (f r w : List ℤ) {a : Answer} (e : a ≡ firstOf (frontRows ss M p v f (length r) (length w))) where
+  abbrev d : ℤ
+  d = v -ℤ at f p
+
+  pub call-refused : (a .number ≡ 0 → ⊥) → Gives (editSeries fold ss M p v f r w) a 0 f r w
+  unfolding editSeries
+  call-refused h =
+      let all = refused-first _ _ e h ∙ sym (ap firstOf (rows-parts ss M p v f r (gained fold ss p d r) (length w))) in
+      rw (← all) (record { answer = refl; count = sym (ifDone-refused a _ 0 h); samples = sym (ifDone-refused a _ f h); results = sym (ifDone-refused a _ r h); work = sym (ifDone-refused a _ w h) })
+
+  module _ (z : a .number ≡ 0) where
+    begun : Begun ss M p v f (length r) (length w) × (natAbs (at f p) ≤ M)
+    begun = front-allowed ss M p v f (length r) (length w) e z
+
+    pub position-inside : p < length f
+    position-inside = begun .0 .position
+
+    pub value-fits : SFits w32 v
+    value-fits = fits-abs {n = M} (record { bound = begun .0 .value }) (omega (arith, begun .0 .common .bound))
+
+    change-size : Abs (v -ℤ at f p) (M + M)
+    change-size = abs-- {a = v} {b = at f p} (record { bound = begun .0 .value }) (record { bound = begun .1 })
+
+    pub change-fits : SFits w64 (v -ℤ at f p)
+    change-fits = fits-abs change-size (omega (arith, begun .0 .common .bound))
+
+    pub editable : Editable ss M p (v -ℤ at f p) r
+    editable = record { common = rw (begun .0 .results) (begun .0 .common); position = rw (begun .0 .results) position-inside; change = omega (arith, change-size .bound) }
+
+    module _ {b : Answer} {k : ℕ} {left : List ℤ} (h : Changes ss (M * divisor ss) p (v -ℤ at f p) r b k left) where
+      all : b ≡ firstOf (editRows ss M p v f r (gained fold ss p (v -ℤ at f p) r) (length w))
+      all = done-rest _ _ (front-numbered ss M p v f (length r) (length w)) e z (h .answer) ∙ sym (ap firstOf (rows-parts ss M p v f r (gained fold ss p d r) (length w)))
+
+      pub call-too-large : (b .number ≡ 0 → ⊥) → Gives (editSeries fold ss M p v f r w) b k f left w
+      unfolding editSeries
+      call-too-large n = rw (← all) (record { answer = refl; count = h .count; samples = sym (ifDone-refused b _ f n); results = h .results; work = sym (ifDone-refused b _ w n) })
+
+      pub call-done : b .number ≡ 0 → {u : ℤ} → u ≡ v → {wrk : List ℤ} → wrk ≡ zeros w → Gives (editSeries fold ss M p v f r w) b k (set f p u) left wrk
+      unfolding editSeries
+      call-done n g t = rw (← all) (record { answer = refl; count = h .count; samples = ap (set f p) g ∙ sym (ifDone-done b _ f n); results = h .results; work = t ∙ sym (ifDone-done b _ w n) })

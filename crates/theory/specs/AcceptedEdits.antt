@@ -1,5 +1,6 @@
 -- The rows of an edit: it is done exactly where its bounds hold, which positions it answers, and that a true smoothing passes row 12.
--- Laws: edit-rising, edit-numbered; edit-allowed, allowed-edit; edit-old (the position at 11), edit-place (at 12), edit-no-position (else); edit-never-12 (of a true smoothing).
+--   front ss M p v f nr nw   rows 1 to 10, of nr results and nw cells of work;  Begun  what they leave
+-- Laws: edit-rising, edit-numbered; front-begun, old-passes (row 11); edit-allowed, allowed-edit; edit-old (the position at 11), edit-place (at 12), edit-no-position (else); edit-never-12 (of a true smoothing).
 use mathlib.Core.Path.{_≡_, refl, sym, _∙_, ap}
 use mathlib.Core.Logic.{⊎-elim, ⊎-map}
 use mathlib.Core.Bool.{Bool, true, false, _&&_, _||_, true≢false}
@@ -35,11 +36,11 @@ module _ (ss : List Stage) (M p : ℕ) (v : ℤ) (f r new : List ℤ) (nw : ℕ)
   edit-numbered = tt
 
 -- ---- rows 1 to 10
-module _ (ss : List Stage) (M p : ℕ) (v : ℤ) (f r : List ℤ) (nw : ℕ) where
+module _ (ss : List Stage) (M p : ℕ) (v : ℤ) (f : List ℤ) (nr nw : ℕ) where
   abbrev common : List Row
-  common = commonRows (seriesOf ss (length f)) M (differs (length r) (length f) || differs nw (editRoom ss (length f)))
+  common = commonRows (seriesOf ss (length f)) M (differs nr (length f) || differs nw (editRoom ss (length f)))
 
-  abbrev front : List Row
+  abbrev pub front : List Row
   front = common ++ (9 when leb (length f) p) ∷ (10 when above M v) ∷ []
 
   front-unplaced : Unplaced 11 front
@@ -47,25 +48,25 @@ module _ (ss : List Stage) (M p : ℕ) (v : ℤ) (f r : List ℤ) (nw : ℕ) whe
   front-unplaced = tt
 
   -- what they leave
-  record Begun : Type 0 where
-    common : AllowedLength ss M (length f)
-    results : length r ≡ length f
-    work : nw ≡ editRoom ss (length f)
-    position : p < length f
-    value : natAbs v ≤ M
+  pub record Begun : Type 0 where
+    pub common : AllowedLength ss M (length f)
+    pub results : nr ≡ length f
+    pub work : nw ≡ editRoom ss (length f)
+    pub position : p < length f
+    pub value : natAbs v ≤ M
 
-  front-begun : Off front → Begun
+  pub front-begun : Off front → Begun
   front-begun h =
       let (c, t) = append-off common _ h in
       let (ok, w) = length-allowed ss M (length f) c in
-      let (a, b) = or-no (differs (length r) (length f)) (differs nw (editRoom ss (length f))) w in
+      let (a, b) = or-no (differs nr (length f)) (differs nw (editRoom ss (length f))) w in
       record { common = ok; results = differs-no _ _ a; work = differs-no _ _ b; position = leb-false _ _ (t .0); value = ltb-false _ _ (t .1 .0) }
 
   begun-front : Begun → Off front
   begun-front ok = off-append common _ (allowed-length ss M (length f) (ok .common) (no-or (no-differs (ok .results)) (no-differs (ok .work)))) (lt-leb _ _ (ok .position), (le-ltb _ _ (ok .value), tt))
 
 -- ---- rows 11 and 12
-old-passes : (M p : ℕ) (f : List ℤ) → p < length f → sampleRow M f (λ i. eqb i p) .applies ≡ false → natAbs (at f p) ≤ M
+pub old-passes : (M p : ℕ) (f : List ℤ) → p < length f → sampleRow M f (λ i. eqb i p) .applies ≡ false → natAbs (at f p) ≤ M
 old-passes M p f l e = ltb-false _ _ (and-no (eqb p p) _ (rowAt-none 11 (length f) _ e p l) (eq-eqb p p refl))
 
 passes-old : (M p : ℕ) (f : List ℤ) → natAbs (at f p) ≤ M → sampleRow M f (λ i. eqb i p) .applies ≡ false
@@ -112,14 +113,14 @@ module _ (φ : IndexMap) (ss : List Stage) (M p : ℕ) (v : ℤ) (f r : List ℤ
   abbrev rest : List Row
   rest = sampleRow M f (λ i. eqb i p) ∷ resultRow ss (M * divisor ss) p r new ∷ []
 
-  parts : rows ≡ front ss M p v f r nw ++ rest
+  parts : rows ≡ front ss M p v f (length r) nw ++ rest
   unfolding editRows planRows sizeRows
   parts = refl
 
   pub edit-allowed : firstOf rows .number ≡ 0 → AllowedEdit φ ss M p v f r nw
   edit-allowed e =
-      let (h, t) = append-off (front ss M p v f r nw) rest (rw parts at (done-off rows (edit-numbered ss M p v f r new nw) e)) in
-      let ok = front-begun ss M p v f r nw h in
+      let (h, t) = append-off (front ss M p v f (length r) nw) rest (rw parts at (done-off rows (edit-numbered ss M p v f r new nw) e)) in
+      let ok = front-begun ss M p v f (length r) nw h in
       let pass = rw (ok .results) at (results-pass φ ss (M * divisor ss) p (v -ℤ at f p) r (t .1 .0)) in
       record {
         common = ok .common;
@@ -134,9 +135,9 @@ module _ (φ : IndexMap) (ss : List Stage) (M p : ℕ) (v : ℤ) (f r : List ℤ
 
   pub allowed-edit : AllowedEdit φ ss M p v f r nw → firstOf rows ≡ done
   allowed-edit ok =
-      let begun : Begun ss M p v f r nw = record { common = ok .common; results = ok .results; work = ok .work; position = ok .position; value = ok .value } in
+      let begun : Begun ss M p v f (length r) nw = record { common = ok .common; results = ok .results; work = ok .work; position = ok .position; value = ok .value } in
       let pass = pass-results φ ss (M * divisor ss) p (v -ℤ at f p) r (rw (ok .results) (λ n l k. (ok .before n l k, ok .after n l k))) in
-      rw parts (off-done _ (off-append (front ss M p v f r nw) rest (begun-front ss M p v f r nw begun) (passes-old M p f (ok .old), (pass, tt))))
+      rw parts (off-done _ (off-append (front ss M p v f (length r) nw) rest (begun-front ss M p v f (length r) nw begun) (passes-old M p f (ok .old), (pass, tt))))
 
   -- ---- positions
   abbrev Offends : ℕ → Type 0
@@ -144,7 +145,7 @@ module _ (φ : IndexMap) (ss : List Stage) (M p : ℕ) (v : ℤ) (f r : List ℤ
 
   record Placed (x : Answer) : Type 0 where
     sample : x .number ≡ 11 → (x .position ≡ p) × (M < natAbs (at f p))
-    result : x .number ≡ 12 → Begun ss M p v f r nw × FirstAt (length r) Offends (x .position)
+    result : x .number ≡ 12 → Begun ss M p v f (length r) nw × FirstAt (length r) Offends (x .position)
     other : (x .number ≡ 11 → ⊥) → (x .number ≡ 12 → ⊥) → x .position ≡ 0
 
   module _ {x : Answer} where
@@ -157,10 +158,10 @@ module _ (φ : IndexMap) (ss : List Stage) (M p : ℕ) (v : ℤ) (f r : List ℤ
         let i = eqb-true (x .position) p t in
         record { sample = λ n. (i, rw i at (ltb-true M (natAbs (at f (x .position))) k)); result = λ n. let no : ⊥ = omega arith in absurd no; other = λ h k. absurd (h m) }
 
-    at-result : Begun ss M p v f r nw → x .number ≡ 12 → FirstAt (length r) Offends (x .position) → Placed x
+    at-result : Begun ss M p v f (length r) nw → x .number ≡ 12 → FirstAt (length r) Offends (x .position) → Placed x
     at-result b m h = record { sample = λ n. omega arith; result = λ n. (b, h); other = λ h k. absurd (k m) }
 
-    from-last : Begun ss M p v f r nw → x ≡ firstOf (resultRow ss (M * divisor ss) p r new ∷ []) → Placed x
+    from-last : Begun ss M p v f (length r) nw → x ≡ firstOf (resultRow ss (M * divisor ss) p r new ∷ []) → Placed x
     unfolding firstOf
     from-last b e = ⊎-elim
         (λ q. at-result b (q .0) (first-map (to-large φ ss (M * divisor ss) p (v -ℤ at f p) r) (of-large φ ss (M * divisor ss) p (v -ℤ at f p) r) (q .1)))
@@ -170,8 +171,8 @@ module _ (φ : IndexMap) (ss : List Stage) (M p : ℕ) (v : ℤ) (f r : List ℤ
     placed : x ≡ firstOf rows → Placed x
     placed e = ⊎-elim
         (λ q. nowhere (q .0) (q .1))
-        (λ q. ⊎-elim (λ s. at-sample (s .0) (s .1)) (λ s. from-last (front-begun ss M p v f r nw (q .0)) (s .1)) (rowAt-answer 11 (length f) _ _ (q .1)))
-        (first-parts 11 (front ss M p v f r nw) rest (front-unplaced ss M p v f r nw) (e ∙ ap firstOf parts))
+        (λ q. ⊎-elim (λ s. at-sample (s .0) (s .1)) (λ s. from-last (front-begun ss M p v f (length r) nw (q .0)) (s .1)) (rowAt-answer 11 (length f) _ _ (q .1)))
+        (first-parts 11 (front ss M p v f (length r) nw) rest (front-unplaced ss M p v f (length r) nw) (e ∙ ap firstOf parts))
 
   module _ {x : Answer} (e : x ≡ firstOf rows) where
     pub edit-old : x .number ≡ 11 → (x .position ≡ p) × (M < natAbs (at f p))

@@ -2,7 +2,7 @@
 -- Laws: ratio-zero (0 over a divisor is plus zero).
 use mathlib.Core.Path.{_≡_, sym, ap, subst, _∙_}
 use mathlib.Core.Bool.{Bool, true, false, cond, true≢false}
-use Prim.Native.Nat.{ℕ, _*_, _^_, _≤_, _<_}
+use Prim.Native.Nat.{ℕ, _*_, _≤_, _<_}
 use native.Mathlib.Omega.{arith}
 use native.Mathlib.Nat.{zero-mul, mul-pos, mul-one, lt-irrefl}
 use borrow.Author.Tests.{ne-eqb}

@@ -1,87 +1,115 @@
-use borrow.Author.Needs.{needs}
+-- Refused, nothing was touched; done, the sample is the new value, the results have their gains and work was cleared.
+use Prim.Native.Nat.{_<_}
+use mathlib.Core.Path.{_≡_, _∙_}
+use native.Mathlib.Omega.{arith}
+use borrow.Author.Needs.{needs, sfits-of}
+use lib.ListN.{length}
+use lib.IntN.{ℤ, _-ℤ_}
+use mir.Syntax.{w32, w64}
+use mir.Val.{SFits, toZ, ofZ}
+use mir.Facts.{toZ-ofZ}
+use Rattle.meaning.specs.Extension.{at}
+use Rattle.meaning.specs.Refusals.{firstOf}
+use Rattle.plan.specs.Structs.{stagesOf, answerOf}
+use Rattle.edit.specs.Contract.{frontRows}
+use Rattle.edit.specs.Steps.{position-inside, value-fits, change-fits, editable, call-refused, call-too-large, call-done}
 use Rattle.edit.proofs.edit_series.Statement.{statement}
 use Rattle.edit.proofs.edit_series.Tie as tie
-use Rattle.edit.proofs.edit_series.Reads as reads
-use Rattle.edit.proofs.edit_series.Lts as lts
-use Rattle.edit.proofs.holding.edit_results.Reads as edit-results-reads
-use Rattle.edit.proofs.testing.refusal.Reads as refusal-reads
-use Rattle.series.proofs.inner.clear.Reads as clear-reads
 
--- src/lib.rt:25:9
 refusal-requires : tie.Need-refusal-requires
 refusal-requires c κs = search needs
 
--- src/lib.rt:35:9
 same-length : tie.Need-same-length
 same-length c = search needs
 
--- src/lib.rt:35:9
+-- what rows 1 to 11 answered
+module _ (c : tie.After-refusal) where
+  abbrev start : tie.Start
+  start = c .before .before
+
+  tested : let a = start .args in answerOf (c .refusal .result) ≡ firstOf (frontRows (stagesOf (a .plan)) (a .bound) (a .position) (a .value) (a .samples .now) (length (a .results .now)) (length (a .work .now)))
+  tested = rw (toZ-ofZ (start .fits .value)) at (c .refusal .ensures)
+
 returns : tie.Need-returns
-returns c = ?
+returns c =
+    let t = c .before .before in
+    let a = t .before .before .args in
+    call-refused (stagesOf (a .plan)) (a .bound) (a .position) (a .value) (a .samples .now) (a .results .now) (a .work .now) (tested t) (c .if1 .taken)
 
--- src/lib.rt:41:26
+-- and what they leave
+inside : (c : tie.Else1) → let a = c .before .before .before .before .args in a .position < length (a .samples .now)
+inside c = let a = c .before .before .before .before .args in position-inside (stagesOf (a .plan)) (a .bound) (a .position) (a .value) (a .samples .now) (a .results .now) (a .work .now) (tested (c .before .before)) (c .if1 .left)
+
 mul-change : tie.Need-mul-change
-mul-change c = ?
+mul-change c = let l = inside c in search needs
 
--- src/lib.rt:41:26
 slice-copy-out-change : tie.Need-slice-copy-out-change
-slice-copy-out-change c = ?
+slice-copy-out-change c = inside c
 
--- src/lib.rt:41:26
+wider : {z : ℤ} → SFits w32 z → SFits w64 z
+wider f = omega arith
+
+old-read : (c : tie.After-change) → let a = start (c .before .before .before) .args in toZ w32 (ofZ w32 (at (a .samples .now) (a .position))) ≡ at (a .samples .now) (a .position)
+old-read c = toZ-ofZ (sfits-of (c .change .given))
+
 cast-change : tie.Need-cast-change
-cast-change c = ?
+cast-change c = rw (old-read c) (wider (sfits-of (c .change .given)))
 
--- src/lib.rt:41:18
 sub-change : tie.Need-sub-change
-sub-change c = ?
+sub-change c =
+    let a = start (c .before .before .before) .args in
+    rw (toZ-ofZ (start (c .before .before .before) .fits .value), toZ-ofZ (cast-change c), old-read c) (change-fits (stagesOf (a .plan)) (a .bound) (a .position) (a .value) (a .samples .now) (a .results .now) (a .work .now) (tested (c .before .before .before)) (c .before .if1 .left))
 
--- src/lib.rt:42:9
+change-is : (c : tie.After-change) → let a = start (c .before .before .before) .args in toZ w64 (ofZ w64 (toZ w64 (ofZ w64 (a .value)) -ℤ toZ w64 (ofZ w64 (toZ w32 (ofZ w32 (at (a .samples .now) (a .position))))))) ≡ a .value -ℤ at (a .samples .now) (a .position)
+change-is c = toZ-ofZ (sub-change c) ∙ rw (toZ-ofZ (start (c .before .before .before) .fits .value), toZ-ofZ (cast-change c), old-read c)
+
 edit-results-requires : tie.Need-edit-results-requires
-edit-results-requires c κs = ?
+edit-results-requires c κs =
+    let a = start (c .before .before .before .before) .args in
+    rw (change-is (c .before)) (editable (stagesOf (a .plan)) (a .bound) (a .position) (a .value) (a .samples .now) (a .results .now) (a .work .now) (tested (c .before .before .before .before)) (c .before .before .if1 .left))
 
--- src/lib.rt:44:9
 same-length-2 : tie.Need-same-length-2
 same-length-2 c = search needs
 
--- src/lib.rt:44:9
 same-length-3 : tie.Need-same-length-3
 same-length-3 c = search needs
 
--- src/lib.rt:44:9
 returns-2 : tie.Need-returns-2
-returns-2 c = ?
+returns-2 c =
+    let e = c .before .before .before .before .before .before in
+    let a = start (e .before .before) .args in
+    call-too-large (stagesOf (a .plan)) (a .bound) (a .position) (a .value) (a .samples .now) (a .results .now) (a .work .now) (tested (e .before .before)) (e .if1 .left) (rw (change-is (c .before .before .before .before .before)) at (c .before .before .before .edit-results .ensures)) (c .if2 .taken)
 
--- src/lib.rt:46:25
 cast-samples : tie.Need-cast-samples
-cast-samples c = ?
+cast-samples c =
+    let e = c .before .before .before .before .before .before in
+    let a = start (e .before .before) .args in
+    rw (toZ-ofZ (start (e .before .before) .fits .value)) (value-fits (stagesOf (a .plan)) (a .bound) (a .position) (a .value) (a .samples .now) (a .results .now) (a .work .now) (tested (e .before .before)) (e .if1 .left))
 
--- src/lib.rt:46:5
 mul-t14 : tie.Need-mul-t14
-mul-t14 c = ?
+mul-t14 c = let l = inside (c .before .before .before .before .before .before) in search needs
 
--- src/lib.rt:46:5
 slice-set-from-samples : tie.Need-slice-set-from-samples
-slice-set-from-samples c = ?
+slice-set-from-samples c = inside (c .before .before .before .before .before .before)
 
--- src/lib.rt:47:5
 clear-requires : tie.Need-clear-requires
 clear-requires c κs = search needs
 
--- src/lib.rt:14:1
 same-length-4 : tie.Need-same-length-4
 same-length-4 c = search needs
 
--- src/lib.rt:14:1
 same-length-5 : tie.Need-same-length-5
 same-length-5 c = search needs
 
--- src/lib.rt:14:1
 same-length-6 : tie.Need-same-length-6
 same-length-6 c = search needs
 
--- src/lib.rt:14:1
 returns-3 : tie.Need-returns-3
-returns-3 c = ?
+returns-3 c =
+    let n = c .before .before .before in
+    let e = n .before .before .before .before .before .before in
+    let a = start (e .before .before) .args in
+    call-done (stagesOf (a .plan)) (a .bound) (a .position) (a .value) (a .samples .now) (a .results .now) (a .work .now) (tested (e .before .before)) (e .if1 .left) (rw (change-is (n .before .before .before .before .before)) at (n .before .before .before .edit-results .ensures)) (n .if2 .left) (toZ-ofZ (cast-samples n) ∙ toZ-ofZ (start (e .before .before) .fits .value)) (c .before .clear .ensures)
 
 pub edit-series-spec : {M : Type 1} → statement M
 edit-series-spec =

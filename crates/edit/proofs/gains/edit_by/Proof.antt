@@ -1,6 +1,4 @@
 -- What was tested is written, and nothing before all of it was tested.
-use mathlib.Core.Path.{_≡_, _∙_, ap}
-use native.Mathlib.Omega.{arith}
 use borrow.Author.Needs.{needs}
 use mir.Facts.{toZ-ofZ}
 use Rattle.edit.specs.Gains.{by-refused, by-writable, by-done}

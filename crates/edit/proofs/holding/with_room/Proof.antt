@@ -1,14 +1,12 @@
 -- An accepted plan has no more taps than there is room for.
 use Prim.Native.Nat.{_<_}
-use mathlib.Core.Path.{_≡_, _∙_}
 use native.Mathlib.Omega.{arith}
 use borrow.Author.Needs.{needs}
-use lib.ListN.{length, length-take}
+use lib.ListN.{length-take}
 use mir.Facts.{toZ-ofZ}
-use Rattle.meaning.specs.Kernel.{reach}
 use Rattle.theory.specs.Accepted.{length-accepted}
 use Rattle.theory.specs.Farthest.{reach-most}
-use Rattle.plan.specs.Structs.{stageOf, stagesOf}
+use Rattle.plan.specs.Structs.{stageOf}
 use Rattle.edit.proofs.holding.with_room.Statement.{statement}
 use Rattle.edit.proofs.holding.with_room.Tie as tie
 

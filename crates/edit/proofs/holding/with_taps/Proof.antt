@@ -1,9 +1,8 @@
 -- The taps are the plan's, so an edit by them is the definition's.
-use Prim.Native.Nat.{_+_, _*_}
-use mathlib.Core.Path.{_≡_, sym, _∙_, ap}
+use Prim.Native.Nat.{_*_}
+use mathlib.Core.Path.{_≡_, sym, _∙_}
 use native.Mathlib.Omega.{arith}
 use borrow.Author.Needs.{needs}
-use lib.ListN.{length}
 use mir.Facts.{toZ-ofZ}
 use Rattle.meaning.specs.Kernel.{divisor}
 use Rattle.theory.specs.Accepted.{length-accepted}
