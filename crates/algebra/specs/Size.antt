@@ -2,7 +2,7 @@
 --   Abs z n     |z| ≤ n; a record, so that z and n are read from a hypothesis
 --   of-abs z    what natAbs z is, for omega's list beside of+ and the like
 -- Laws: natAbs-+, natAbs-back, natAbs-neg, natAbs-*, natAbs-sub, natAbs-nonneg;
--- abs-self, abs-weaken, abs-+, abs-neg, abs--, abs-*, abs-part; mag-abs, abs-mag, fits-abs.
+-- abs-self, abs-weaken, abs-+, abs-neg, abs--, abs-*, abs-part, abs-rest; mag-abs, abs-mag, fits-abs.
 use mathlib.Core.Path.{_≡_, refl}
 use Prim.Native.Nat.{ℕ, suc, _+_, _*_, _-_, _^_, _≤_, _<_, min}
 use native.Mathlib.Nat.{mul-le-mul, le-refl, le-trans, lt-of-le-of-lt}
@@ -66,6 +66,10 @@ abs-* {a} {b} h k = record { bound = rw (natAbs-* a b) (mul-le-mul (h .bound) (k
 -- a part of a sum of numbers that are not negative
 pub abs-part : {a b : ℤ} {n : ℕ} → pos 0 ≤ℤ a → pos 0 ≤ℤ b → Abs (a +ℤ b) n → Abs a n
 abs-part {a} {b} h k s = omega (arith, natAbs-nonneg h k)
+
+-- the last of a sum, by what stands before it and the whole
+pub abs-rest : {a b : ℤ} {m n : ℕ} → Abs a m → Abs (a +ℤ b) n → Abs b (m + n)
+abs-rest {a} {b} h k = omega (arith, of-abs a, of-abs b, of-abs (a +ℤ b), of+ a b)
 
 -- ---- the range of a signed width
 pub mag-abs : {z : ℤ} {n H : ℕ} → Abs z n → n < H → mag z < H

@@ -3,7 +3,7 @@
 --   sumZ s n f   f s + f (s + 1) + .. + f (s + n − 1), from a whole number s on; 0 where n is 0
 -- Laws: sum-ext, sum-none, sum-const, sum-+, sum-*, sum-neg, sum-swap;
 -- sum-first, sum-split, sum-blocks, sum-shift, sum-next, sum-rev, sum-telescope; sum-wide, sum-same, sum-only, sum-where;
--- sum-abs, sum-nonneg, sum-positive; sumZ-shift, sumZ-split, sumZ-rev.
+-- sum-abs, sum-nonneg, sum-positive, sum-part, sum-weighted; sumZ-shift, sumZ-split, sumZ-rev.
 use mathlib.Core.Path.{_≡_, refl, sym, _∙_, ap, ap₂}
 use mathlib.Core.Logic.{_≢_}
 use mathlib.Core.Bool.{Bool, true, false, cond}
@@ -11,12 +11,12 @@ use Prim.Native.Nat.{ℕ, zero, suc, _+_, _*_, _-_, _≤_, _<_}
 use native.Mathlib.Nat.{add-zero, add-suc, zero-mul, suc-mul}
 use native.Mathlib.Decide.{ℕ-discrete, decLe}
 use native.Mathlib.Omega.{arith}
-use lib.IntN.{ℤ, pos, negℤ, _+ℤ_, _-ℤ_, _*ℤ_, +ℤ-idr, +ℤ-idl, +ℤ-assoc, +ℤ-comm, +ℤ-invr, *ℤ-zero, zero-*ℤ, sucℤ-*ℤ, negℤ-+ℤ}
+use lib.IntN.{ℤ, pos, negℤ, natAbs, _+ℤ_, _-ℤ_, _*ℤ_, +ℤ-idr, +ℤ-idl, +ℤ-assoc, +ℤ-comm, +ℤ-invr, *ℤ-zero, zero-*ℤ, sucℤ-*ℤ, negℤ-+ℤ}
 use lib.Signed.{_≤ℤ_, _<ℤ_}
 use Rattle.algebra.specs.Difference.{rep, diff, linear}
 use Rattle.algebra.specs.Ring.{ac, *ℤ-idr, *ℤ-+ℤ}
 use Rattle.algebra.specs.Order.{nonneg-pos, nonneg-+, positive-+-l, positive-+-r}
-use Rattle.algebra.specs.Size.{Abs, abs-+}
+use Rattle.algebra.specs.Size.{Abs, abs-+, abs-part, natAbs-nonneg}
 use Rattle.algebra.specs.Expression.{_⊕_, _⊝_}
 use Rattle.algebra.specs.Solver.{ring, _≗_}
 
@@ -152,6 +152,19 @@ sum-positive (suc n) {f} h p l t = go (ℕ-discrete p n) (sum-positive n (λ i k
     go : Dec (p ≡ n) → (p < n → pos 0 <ℤ f p → pos 0 <ℤ sum n f) → pos 0 <ℤ (sum n f +ℤ f n)
     go (yes e) ih = positive-+-r (sum-nonneg n (λ i k. h i (omega arith))) (rw e at t)
     go (no e) ih = positive-+-l (ih (omega arith) t) (h n (omega arith))
+
+-- the first of numbers that are not negative sum to no more than all of them
+pub sum-part : (m n : ℕ) {b : ℕ} {f : ℕ → ℤ} → m ≤ n → ((i : ℕ) → pos 0 ≤ℤ f i) → Abs (sum n f) b → Abs (sum m f) b
+sum-part m n {b} {f} l h s = abs-part (sum-nonneg m (λ i k. h i)) (sum-nonneg (n - m) (λ i k. h (m + i))) (rw (ap (λ k. sum k f) to ∙ sum-split m (n - m) f) at s)
+  where
+    to : n ≡ m + (n - m)
+    to = omega arith
+
+-- each f i at most b times its weight
+pub sum-weighted : (n b : ℕ) {w f : ℕ → ℤ} → ((i : ℕ) → pos 0 ≤ℤ w i) → ((i : ℕ) → i < n → Abs (f i) (b * natAbs (w i))) → Abs (sum n f) (b * natAbs (sum n w))
+unfolding sum
+sum-weighted zero b h k = omega arith
+sum-weighted (suc n) b {w} h k = record { bound = rw (natAbs-nonneg (sum-nonneg n (λ i l. h i)) (h n)) (omega (arith, abs-+ (sum-weighted n b h (λ i l. k i (omega arith))) (k n (omega arith)) .bound)) }
 
 -- ---- over whole numbers
 abbrev pub sumZ : ℤ → ℕ → (ℤ → ℤ) → ℤ

@@ -15,6 +15,7 @@
 --   Tests        tests by what they test, and joined
 --   Weights      results are linear in the samples
 --   Local        what lies within reach, and nothing else
+--   Shares       what the samples within reach hold of a result
 --   Images       a weight as strided sums of taps
 --   Picture      rows first or columns first
 --   Refusals     which row answers, and what an answer of 0 says
@@ -46,6 +47,7 @@ pub mod Slide
 pub mod Tests
 pub mod Weights
 pub mod Local
+pub mod Shares
 pub mod Images
 pub mod Picture
 pub mod Refusals

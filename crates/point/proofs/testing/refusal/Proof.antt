@@ -6,7 +6,11 @@ use borrow.Author.Needs.{needs}
 use lib.ListN.{length}
 use Rattle.meaning.specs.Refusals.{differs}
 use Rattle.meaning.specs.Calls.{editRoom}
-use Rattle.plan.specs.Structs.{stagesOf}
+use Rattle.meaning.specs.Kernel.{reach}
+use Rattle.meaning.specs.Bounds.{AllowedLength}
+use Rattle.theory.specs.Accepted.{accepted-reach, length-accepted}
+use Rattle.theory.specs.Farthest.{reach-most}
+use Rattle.plan.specs.Structs.{stageOf, stagesOf}
 use Rattle.plan.specs.Placed.{placed-allowed}
 use Rattle.point.specs.Steps.{test-refused, test-sample}
 use Rattle.point.proofs.testing.refusal.Statement.{statement}
@@ -42,7 +46,10 @@ reach-start-requires : tie.Need-reach-start-requires
 reach-start-requires c κs = search needs
 
 reach-end-requires : tie.Need-reach-end-requires
-reach-end-requires c κs = omega (arith, reach-is (c .before), reach-most _ (length-accepted (allowed (c .before .before) .0)), allowed (c .before .before))
+reach-end-requires c κs =
+    let p = c .before .before .before .before .before .args .plan in
+    let ok = allowed (c .before .before) in
+    omega (arith, reach-is (c .before), reach-most (p .passes) (stageOf p) (length-accepted (ok .0)))
 
 sample-refusal-requires : tie.Need-sample-refusal-requires
 sample-refusal-requires c κs = search needs
