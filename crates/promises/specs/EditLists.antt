@@ -1,4 +1,4 @@
--- Any list of edits, by the contract of `edit::edit_series` alone; and the same beside `series::smooth_series`, by its own.
+-- Any list of edits: calls of `edit::edit_series` by its own contract, beside calls of `series::smooth_series` by its own.
 --   Edits p M x cs y   the calls cs, one after the other, under the plan p and the bound M, accepted or refused, lead from the samples and results x to y
 --   Each P cs          P of each of cs
 --   written f cs       what the accepted of cs say of the samples f
@@ -6,8 +6,8 @@
 --   edits-never-12     and where no sample is above the bound, none ever gets so, and no call answers 12
 --   SmoothCall         a call of smoothing, as its contract lets it end;  call x  what it was given, answered and left;  smoothed x  its samples, and the results left
 --   smoothing-fresh    where it is done, it leaves a fresh smoothing
---   edits-smoothing    after any edits of a fresh smoothing, a call that smooths the samples and is done leaves just the results that are stored
---   edits-smoothed     and it is done, with slices of the asked lengths, where a call under the same bound was before the edits
+--   edits-smoothing    after any edits of a fresh smoothing, a call that smooths the samples then held, under any bound, and is done leaves just the results then stored
+--   edits-smoothed     smooth, edit, smooth again, under one plan and bound: where the first is done, so is the last with slices of the asked lengths, and leaves just the results then stored
 use Prim.Native.Nat.{ℕ}
 use mathlib.Core.Path.{_≡_, refl, sym, ap, _∙_, subst}
 use mathlib.Core.Logic.{_≢_}
@@ -66,7 +66,7 @@ module _ (p : Plan) (M : ℕ) where
       let (v, w) = edits-never-12 (after c) cs y k (fresh-same a refl (edit-fresh c t)) (subst (λ (L : ℕ). Within L (samplesLeft c)) b (edit-within c u)) in
       ((edit-never-12 c t u, v), w)
 
--- ---- by calls of smoothing alone
+-- ---- beside calls of smoothing
 pub record SmoothCall : Type 1 where
   pub lifetimes : Lfts 3
   pub given : Dens lifetimes kinds.ps
@@ -83,9 +83,8 @@ smoothed x = record { samples = call x .samples; results = call x .resultsLeft }
 pub smoothing-fresh : (x : SmoothCall) → call x .answer .number ≡ 0 → Fresh (call x .plan) (smoothed x)
 smoothing-fresh x e = smooth.done-whole (x .lifetimes) (x .given) (x .answered) (x .left) (x .learnt) e
 
-module _ (p : Plan) (M : ℕ) (x : Stored) (cs : List EditCall) (y : Stored) (k : Edits p M x cs y) (z : SmoothCall) (plans : call z .plan ≡ p) (same : call z .samples ≡ y .samples) where
-  pub edits-smoothing : Fresh p x → call z .answer .number ≡ 0 → call z .resultsLeft ≡ y .results
-  edits-smoothing h d = smoothing-fresh z d ∙ rw (plans, same) (sym (edits-fresh p M x cs y k h .1))
+pub edits-smoothing : (p : Plan) (M : ℕ) (x : Stored) (cs : List EditCall) (y : Stored) → Edits p M x cs y → Fresh p x → (z : SmoothCall) → call z .plan ≡ p → call z .samples ≡ y .samples → call z .answer .number ≡ 0 → call z .resultsLeft ≡ y .results
+edits-smoothing p M x cs y k h z a e d = smoothing-fresh z d ∙ rw (a, e) (sym (edits-fresh p M x cs y k h .1))
 
 still-allowed : {p q : Plan} {M L N nr nw : ℕ} {f g : List ℤ} → q ≡ p → L ≡ M → f ≡ g → length g ≡ N → AllowedLength (stagesOf p) M N → Within M g → nr ≡ length g → nw ≡ length g → AllowedSeries (stagesOf q) L f nr nw
 still-allowed a b e n ok h r w = rw (a, b, e) (record { common = rw n ok; results = r; work = w; samples = h })
@@ -99,4 +98,4 @@ edits-smoothed x d cs y k z p M f r w =
     let long = ap length (edits-fresh (call x .plan) (call x .bound) (smoothed x) cs y k fresh .0) ∙ length-written (call x .samples) cs in
     let inside = edits-never-12 (call x .plan) (call x .bound) (smoothed x) cs y k fresh (ok .samples) .1 in
     let done = smooth.allowed-done (z .lifetimes) (z .given) (z .answered) (z .left) (z .learnt) (still-allowed p M f long (ok .common) inside r w) in
-    (done, edits-smoothing (call x .plan) (call x .bound) (smoothed x) cs y k z p f fresh done)
+    (done, edits-smoothing (call x .plan) (call x .bound) (smoothed x) cs y k fresh z p f done)

@@ -168,7 +168,7 @@ module _ (c : EditCall) where
   outcome-number : number c ≡ outcome c .answer .number
   outcome-number = ap (λ (x : meant.Answer). x .number) (c .learnt .answer)
 
-  pub edit-lowest : ((number c ≡ 0 → ⊥) → Applies (number c) (rows c)) × ((n : ℕ) → Applies n (rows c) → number c ≤ n)
+  pub edit-lowest : (number c ≢ 0 → Applies (number c) (rows c)) × ((n : ℕ) → Applies n (rows c) → number c ≤ n)
   edit-lowest = (λ h. subst (λ (n : ℕ). Applies n (rows c)) (sym number-is) (first-applies (rows c) (λ e. h (number-is ∙ e))), λ n k. omega (arith, number-is, first-lowest (rows c) (tested.edit-rising _ _ _ _ _ _ _ _) k))
 
   pub edit-done : Exactly (number c ≡ 0) ((n : ℕ) → Applies n (rows c) → ⊥)
@@ -183,10 +183,10 @@ module _ (c : EditCall) where
   pub edit-place-12 : number c ≡ 12 → FirstAt (length (results c)) (TooLarge fold (stages c) (bound c * divisor (stages c)) (position c) (value c -ℤ old c) (results c)) (place c)
   edit-place-12 = tested.edit-place _ _ _ _ _ _ _ _ answer-is
 
-  pub edit-place-other : (number c ≡ 11 → ⊥) → (number c ≡ 12 → ⊥) → place c ≡ 0
+  pub edit-place-other : number c ≢ 11 → number c ≢ 12 → place c ≡ 0
   edit-place-other = tested.edit-no-position _ _ _ _ _ _ _ _ answer-is
 
-  pub edit-unchanged : (number c ≡ 0 → ⊥) → (samplesLeft c ≡ samples c) × (resultsLeft c ≡ results c) × (workLeft c ≡ work c) × (count c ≡ 0)
+  pub edit-unchanged : number c ≢ 0 → (samplesLeft c ≡ samples c) × (resultsLeft c ≡ results c) × (workLeft c ≡ work c) × (count c ≡ 0)
   edit-unchanged h =
       let (k, f, r, w) = law.edit-refused _ _ _ _ _ _ _ _ (λ e. h (outcome-number ∙ e)) in
       (c .learnt .samples ∙ f, c .learnt .results ∙ r, c .learnt .work ∙ w, c .learnt .count ∙ k)
