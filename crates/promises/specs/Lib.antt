@@ -1,7 +1,11 @@
 -- What is promised of the calls, each stated of the call's own contract: `Learnt`, what a caller learns of an answer and the slices left.
 --   SmoothSeries   smoothing a series
+--   Edits          an edit of a stored smoothing
+--   EditLists      any list of edits, and smoothing beside them
 --   Plans          a plan's constructor, divisor and reach
 --   Records        the job record's reader and writer, and that each undoes the other
 pub mod SmoothSeries
+pub mod Edits
+pub mod EditLists
 pub mod Plans
 pub mod Records

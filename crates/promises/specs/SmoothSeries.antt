@@ -6,7 +6,7 @@
 --   done-allowed, allowed-done       and exactly where the bounds of document 01 hold
 --   position-first, position-other   at 11 the position is that of the first sample above the bound, else 0
 --   refused-unchanged  demand 1: a refused call leaves every cell as it was
---   done-results       demand 2: the results of a call that is done are the convolution of the extension with the K-fold kernel
+--   done-results       demand 2: the results of a call that is done are the convolution of the extension with the K-fold kernel; done-whole says so of the whole list
 --   done-left          such a call leaves zeros in work
 --   kernel-over        the K-fold kernel's sum is D^K, with D = (2r+1)b + 2a
 --   one-outcome        two outcomes that the contract allows are the same call
@@ -113,14 +113,14 @@ module _ (κs : Lfts 3) (a : Dens κs kinds.ps) (r : resT kinds.r κs .Denot) (s
     allowed-done ok = number-is ∙ ap (λ (x : meant.Answer). x .number) (allowed-series _ _ _ _ _ ok)
 
     module _ (e : number ≡ 0) where
-      whole : call .resultsLeft ≡ results fold (stagesOf (call .plan)) (call .samples)
+      pub done-whole : call .resultsLeft ≡ results fold (stagesOf (call .plan)) (call .samples)
       unfolding smoothed
-      whole = h .results ∙ ifDone-done _ _ _ (sym number-is ∙ e)
+      done-whole = h .results ∙ ifDone-done _ _ _ (sym number-is ∙ e)
 
       pub done-results : (length (call .resultsLeft) ≡ length (call .samples)) × ((n : ℕ) → n < length (call .samples)
           → at (call .resultsLeft) n ≡ sumWithin (width (stagesOf (call .plan))) (λ m. kernel (stagesOf (call .plan)) m *ℤ ext fold (call .samples) (pos n -ℤ m)))
       unfolding convolved result
-      done-results = rw whole (length-results fold (stagesOf (call .plan)) (call .samples), λ n l. at-results fold (stagesOf (call .plan)) (call .samples) n l)
+      done-results = rw done-whole (length-results fold (stagesOf (call .plan)) (call .samples), λ n l. at-results fold (stagesOf (call .plan)) (call .samples) n l)
 
       pub done-left : call .workLeft ≡ zeros (call .work)
       unfolding smoothed
