@@ -155,7 +155,7 @@ sum-positive (suc n) {f} h p l t = go (ℕ-discrete p n) (sum-positive n (λ i k
 
 -- the first of numbers that are not negative sum to no more than all of them
 pub sum-part : (m n : ℕ) {b : ℕ} {f : ℕ → ℤ} → m ≤ n → ((i : ℕ) → pos 0 ≤ℤ f i) → Abs (sum n f) b → Abs (sum m f) b
-sum-part m n {b} {f} l h s = abs-part (sum-nonneg m (λ i k. h i)) (sum-nonneg (n - m) (λ i k. h (m + i))) (rw (ap (λ k. sum k f) to ∙ sum-split m (n - m) f) at s)
+sum-part m n {f = f} l h s = abs-part (sum-nonneg m (λ i k. h i)) (sum-nonneg (n - m) (λ i k. h (m + i))) (rw (ap (λ k. sum k f) to ∙ sum-split m (n - m) f) at s)
   where
     to : n ≡ m + (n - m)
     to = omega arith
@@ -164,7 +164,7 @@ sum-part m n {b} {f} l h s = abs-part (sum-nonneg m (λ i k. h i)) (sum-nonneg (
 pub sum-weighted : (n b : ℕ) {w f : ℕ → ℤ} → ((i : ℕ) → pos 0 ≤ℤ w i) → ((i : ℕ) → i < n → Abs (f i) (b * natAbs (w i))) → Abs (sum n f) (b * natAbs (sum n w))
 unfolding sum
 sum-weighted zero b h k = omega arith
-sum-weighted (suc n) b {w} h k = record { bound = rw (natAbs-nonneg (sum-nonneg n (λ i l. h i)) (h n)) (omega (arith, abs-+ (sum-weighted n b h (λ i l. k i (omega arith))) (k n (omega arith)) .bound)) }
+sum-weighted (suc n) b h k = record { bound = rw (natAbs-nonneg (sum-nonneg n (λ i l. h i)) (h n)) (omega (arith, abs-+ (sum-weighted n b h (λ i l. k i (omega arith))) (k n (omega arith)) .bound)) }
 
 -- ---- over whole numbers
 abbrev pub sumZ : ℤ → ℕ → (ℤ → ℤ) → ℤ

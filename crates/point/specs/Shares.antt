@@ -1,6 +1,6 @@
 -- What the samples hold of the result at n, by the taps xs.
 --   shareIn xs f n p            sample p, by its weight
---   Summable xs f n start end   what the sum from start up to end asks: no sample before start has a share, and room for every sum
+--   Summable xs f n start end   what the sum from start up to end asks: no share before start, a weight for every sample, and room for every sum
 --   Pointable ss n f            what the result at n asks: the bounds hold under some bound on the samples within reach
 -- Laws: share-next, shares-fit (one share more); summable, summed-result (by taps that hold the kernel, those within reach make the result);
 -- divisible (the result and the divisor are as small as a division asks).

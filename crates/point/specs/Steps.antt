@@ -30,9 +30,9 @@ module _ (ss : List Stage) (M n : ℕ) (f : List ℤ) (nw : ℕ) {a : Answer} (w
   unfolding pointRows
   test-refused h = placed-refused ss M (length f) wrong n e w _ h
 
-  pub test-sample : a .number ≡ 0 → {b : Answer} → b ≡ firstOf (sampleRow M f (within (low n (reach ss)) (high (length f) n (reach ss))) ∷ []) → b ≡ firstOf (pointRows ss M n f nw)
+  pub test-sample : a .number ≡ 0 → {start end : ℕ} → start ≡ low n (reach ss) → end ≡ high (length f) n (reach ss) → {b : Answer} → b ≡ firstOf (sampleRow M f (within start end) ∷ []) → b ≡ firstOf (pointRows ss M n f nw)
   unfolding pointRows
-  test-sample z g = placed-rest ss M (length f) wrong n e w _ z (g ∙ ap (λ row. firstOf (row ∷ [])) (rowAt-ext 11 (length f) (λ i k. rw (near-within ss n k))))
+  test-sample z from to g = placed-rest ss M (length f) wrong n e w _ z (g ∙ ap (λ row. firstOf (row ∷ [])) (rowAt-ext 11 (length f) (λ i k. rw (from, to, near-within ss n k))))
 
 -- ---- the two ends of a call whose test answered a
 module _ (ss : List Stage) (M n : ℕ) (f w : List ℤ) {a : Answer} (e : a ≡ firstOf (pointRows ss M n f (length w))) where

@@ -58,7 +58,7 @@ returns-2 : tie.Need-returns-2
 returns-2 c =
     let s = c .before .before .before .before in
     let a = s .before .before .before .args in
-    test-sample (stagesOf (a .plan)) (a .bound) (a .position) (a .samples .now) (a .work) _ (s .before .position-refusal .ensures) (lengths (s .before .before)) (s .if1 .left) (rw (← reach-is (c .before .before .before), ← c .before .before .reach-start .ensures, ← c .before .reach-end .ensures) (c .sample-refusal .ensures))
+    test-sample (stagesOf (a .plan)) (a .bound) (a .position) (a .samples .now) (a .work) _ (s .before .position-refusal .ensures) (lengths (s .before .before)) (s .if1 .left) (omega (arith, reach-is (c .before .before .before))) (omega (arith, reach-is (c .before .before .before))) (c .sample-refusal .ensures)
 
 pub refusal-spec : {M : Type 1} → statement M
 refusal-spec = tie.close (tie.spec edit-room-requires position-refusal-requires returns reach-requires reach-start-requires reach-end-requires sample-refusal-requires returns-2)
