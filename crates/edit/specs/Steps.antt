@@ -1,4 +1,5 @@
 -- The steps of an edit, each over plain lists.
+--   Changes ss L p d r a k left   what an edit makes of the results r under the limit L, where sample p changes by d: row 12's answer a, the count k, and what is left
 --   Editable ss M p d r   what an edit of the results asks: the bounds of document 01, and a change of size up to twice the bound
 -- Laws: gainable, changes-held (by taps that hold the kernel, the gains are the definition's);
 -- position-inside, value-fits, change-fits, editable (what rows 1 to 11 leave); call-refused, call-too-large, call-done.
@@ -17,7 +18,7 @@ use Rattle.meaning.specs.Extension.{at, fold}
 use Rattle.meaning.specs.Kernel.{Stage, reach, divisor}
 use Rattle.meaning.specs.Smoothing.{weight, near, apart}
 use Rattle.meaning.specs.Refusals.{Answer, firstOf, rowAt, above, ifDone, zeros}
-use Rattle.meaning.specs.Calls.{gained, editRows, editSeries}
+use Rattle.meaning.specs.Calls.{gained, changed, editRows, editSeries}
 use Rattle.meaning.specs.Bounds.{AllowedLength}
 use Rattle.theory.specs.HalfSample.{half-sample}
 use Rattle.theory.specs.Lists.{listOf-ext}
@@ -31,14 +32,19 @@ use Rattle.theory.specs.Accepted.{inner-allowed, length-accepted}
 use Rattle.plan.specs.Span.{low, high}
 use Rattle.taps.specs.Taps.{Held, held-nonneg}
 use Rattle.taps.specs.Weigh.{weight-held}
-use Rattle.edit.specs.Contract.{Gives, Changes, frontRows}
-use Rattle.edit.specs.Rows.{rows-parts, front-numbered, front-allowed}
+use Rattle.edit.specs.Contract.{Gives}
+use Rattle.edit.specs.Rows.{frontRows, rows-parts, front-numbered, front-allowed}
 use Rattle.edit.specs.Gains.{gainIn, movedIn, gainedIn, refusedIn, Gainable, ChangesIn}
 
 pub record Editable (ss : List Stage) (M p : ℕ) (d : ℤ) (r : List ℤ) : Type 0 where
   pub common : AllowedLength ss M (length r)
   pub position : p < length r
   pub change : natAbs d ≤ 2 * M
+
+pub record Changes (ss : List Stage) (L p : ℕ) (d : ℤ) (r : List ℤ) (a : Answer) (k : ℕ) (left : List ℤ) : Type 0 where
+  pub answer : a ≡ firstOf (resultRow ss L p r (gained fold ss p d r) ∷ [])
+  pub count : k ≡ ifDone a (changed r (gained fold ss p d r)) 0
+  pub results : left ≡ ifDone a (gained fold ss p d r) r
 
 module _ (ss : List Stage) (M p : ℕ) (d : ℤ) (r : List ℤ) (ok : Editable ss M p d r) (xs : List ℤ) (held : Held ss xs) where
   abbrev N : ℕ

@@ -2,7 +2,7 @@
 ghost use mathlib.Core.Path.{_≡_};
 ghost use Rattle.meaning.specs.Refusals as R;
 ghost use Rattle.plan.specs.Structs.{stagesOf, answerOf};
-ghost use Rattle.edit.specs.Contract.{frontRows};
+ghost use Rattle.edit.specs.Rows.{frontRows};
 use plan::Answer;
 use plan::Plan;
 

@@ -11,7 +11,7 @@ use mir.Facts.{toZ-ofZ}
 use Rattle.meaning.specs.Extension.{at}
 use Rattle.meaning.specs.Refusals.{firstOf}
 use Rattle.plan.specs.Structs.{stagesOf, answerOf}
-use Rattle.edit.specs.Contract.{frontRows}
+use Rattle.edit.specs.Rows.{frontRows}
 use Rattle.edit.specs.Steps.{position-inside, value-fits, change-fits, editable, call-refused, call-too-large, call-done}
 use Rattle.edit.proofs.edit_series.Statement.{statement}
 use Rattle.edit.proofs.edit_series.Tie as tie
