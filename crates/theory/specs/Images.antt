@@ -1,7 +1,6 @@
 -- The weight of a sample, by its images: the places where the fold reads it.
 --   strided ss N d   the taps at d, d + 2N, d + 4N, .. summed
--- Laws: strided-next (the tap at d, and the others), strided-beyond (0 where d is past the kernel's width);
--- weight-images (four strided sums: the images of p lie so far from n, on either side, and every 2N on).
+-- Law: weight-images (four strided sums: the images of p lie so far from n, on either side, and every 2N on).
 use mathlib.Core.Path.{_≡_, sym, _∙_, ap, ap₂}
 use mathlib.Core.Bool.{cond}
 use mathlib.Core.List.{List}
@@ -15,20 +14,16 @@ use Rattle.algebra.specs.Difference.{minus, rep, diff, linear}
 use Rattle.algebra.specs.Ring.{ac, sub-back, *ℤ-zero-l}
 use Rattle.algebra.specs.Order.{of+, of-neg}
 use Rattle.algebra.specs.Size.{of-abs, natAbs-neg, natAbs-sub}
-use Rattle.algebra.specs.Sum.{sum, sum-ext, sum-none, sum-+, sum-next, sum-split, sum-blocks, sum-where}
+use Rattle.algebra.specs.Sum.{sum, sum-ext, sum-+, sum-next, sum-split, sum-blocks, sum-where}
 use Rattle.algebra.specs.Within.{sumWithin, beyond-*, within-ext, within-halves, within-neg, within-shift}
 use Rattle.meaning.specs.Extension.{reflect, fold}
-use Rattle.meaning.specs.Kernel.{Stage, kernel, width, reach}
+use Rattle.meaning.specs.Kernel.{Stage, kernel, width}
 use Rattle.meaning.specs.Smoothing.{convolved, reads, weight, apart}
-use Rattle.theory.specs.Kernel.{kernel-symmetric, kernel-beyond, kernel-outside}
+use Rattle.theory.specs.Kernel.{kernel-symmetric, kernel-beyond}
 use Rattle.theory.specs.HalfSample.{reflect-min, fold-at, fold-negsuc}
 
 unfoldable pub strided : List Stage → ℕ → ℕ → ℤ
 strided ss N d = sum (suc (width ss)) (λ i. kernel ss (pos (d + i * (2 * N))))
-
-pub strided-beyond : (ss : List Stage) (N d : ℕ) → reach ss < d → strided ss N d ≡ pos 0
-unfolding strided
-strided-beyond ss N d h = sum-none _ (λ i l. kernel-outside ss _ (omega arith))
 
 -- ---- sums
 -- w + 1 periods are a period longer than w
@@ -94,10 +89,6 @@ module _ (ss : List Stage) (N : ℕ) where
   from-both : (e : ℤ) → natAbs e < 2 * N → from (negℤ e) +ℤ from (e +ℤ pos (2 * N)) ≡ strided ss N (natAbs e) +ℤ strided ss N (2 * N - natAbs e)
   from-both (pos d) h = from-neg (pos d) h ∙ from-pos d h
   from-both (negsuc d) h = from-pos (suc d) h
-
-  pub strided-next : (d : ℕ) → 0 < N → strided ss N d ≡ kernel ss (pos d) +ℤ strided ss N (d + 2 * N)
-  unfolding from strided
-  strided-next d h = from-next (pos d) (omega arith)
 
   -- ---- the weight
   module _ (n p : ℕ) (hn : n < N) (hp : p < N) where
