@@ -6,11 +6,15 @@
 --   editAnswer e   number and position of what an edit answers
 --   pointAnswer q, pointValue q   number and position, and value, of each case of what a point answers; a refused one has plus zero
 --   pointOf a x    what a point answers: the value x where a is done, else a
+-- Laws: pointOf-done, pointOf-refused (which case it is); pointAnswer-of (where 0 is done, its number and position are those of a).
 use Prim.Native.Nat.{ℕ}
+use mathlib.Core.Path.{_≡_, sym, ap, _∙_}
 use mathlib.Core.Bool.{cond}
 use mathlib.Core.List.{List}
+use native.Mathlib.Decide.{ℕ-discrete}
 use lib.Dec.{eqb}
 use lib.Ieee.{Float}
+use borrow.Author.Tests.{eq-eqb, ne-eqb}
 use Rattle.meaning.specs.Kernel.{Stage, plan}
 use Rattle.meaning.specs.Refusals as meant
 use Rattle.plan.specs.declared.Plan.{Plan}
@@ -45,3 +49,16 @@ pointValue (Refused n i) = plusZero
 
 abbrev pub pointOf : meant.Answer → Float → Point
 pointOf a x = cond (eqb (a .number) 0) (Value x) (Refused (a .number) (a .position))
+
+pub pointOf-done : (a : meant.Answer) (x : Float) → a .number ≡ 0 → pointOf a x ≡ Value x
+pointOf-done a x e = rw (eq-eqb (a .number) 0 e)
+
+pub pointOf-refused : (a : meant.Answer) (x : Float) → (a .number ≡ 0 → ⊥) → pointOf a x ≡ Refused (a .number) (a .position)
+pointOf-refused a x e = rw (ne-eqb (a .number) 0 e)
+
+pub pointAnswer-of : (a : meant.Answer) (x : Float) → (a .number ≡ 0 → a ≡ plain 0) → pointAnswer (pointOf a x) ≡ a
+pointAnswer-of a x h = go (ℕ-discrete (a .number) 0)
+  where
+    go : Dec (a .number ≡ 0) → pointAnswer (pointOf a x) ≡ a
+    go (yes e) = ap pointAnswer (pointOf-done a x e) ∙ sym (h e)
+    go (no e) = ap pointAnswer (pointOf-refused a x e)

@@ -7,7 +7,6 @@ use mathlib.Core.List.{List, [], _∷_}
 use lib.ListN.{length, replicate}
 use lib.IntN.{ℤ, pos}
 use lib.Ieee.{Float}
-use borrow.Author.Tests.{eq-eqb, ne-eqb}
 use Rattle.meaning.specs.Extension.{fold}
 use Rattle.meaning.specs.Kernel.{Stage, reach}
 use Rattle.meaning.specs.Refusals.{Answer, firstOf, differs, within, planDivisor}
@@ -20,6 +19,7 @@ use Rattle.theory.specs.Places.{rowAt-ext}
 use Rattle.theory.specs.Accepted.{length-accepted, accepted-divisor}
 use Rattle.theory.specs.AcceptedPoints.{point-allowed}
 use Rattle.plan.specs.declared.Point.the-variants.{Value, Refused}
+use Rattle.plan.specs.Structs.{pointOf-done, pointOf-refused}
 use Rattle.plan.specs.Span.{low, high}
 use Rattle.plan.specs.Placed.{placedRows, placed-refused, placed-rest}
 use Rattle.point.specs.Contract.{Gives}
@@ -41,10 +41,10 @@ module _ (ss : List Stage) (M n : ℕ) (f w : List ℤ) {a : Answer} (e : a ≡ 
 
   pub call-refused : (a .number ≡ 0 → ⊥) → Gives (point fold ss M n f w) (Refused (a .number) (a .position)) w
   unfolding point
-  call-refused h = rw (← e) (record { answer = rw (ne-eqb (a .number) 0 h); work = sym (ifDone-refused a _ w h) })
+  call-refused h = rw (← e) (record { answer = sym (pointOf-refused a _ h); work = sym (ifDone-refused a _ w h) })
 
   pub call-done : {r : ℤ} {d : ℕ} {x : Float} {work : List ℤ} → a .number ≡ 0 → r ≡ result fold ss f (pos n) → d ≡ planDivisor ss → x ≡ ratio r d → work ≡ replicate (length w) (pos 0) → Gives (point fold ss M n f w) (Value x) work
   unfolding point
   call-done z i j x t =
       let value = x ∙ ap₂ ratio i (j ∙ accepted-divisor ss (length-accepted (pointable z .common))) in
-      rw (← e) (record { answer = rw (eq-eqb (a .number) 0 z) (ap Value (value ∙ sym (ifDone-done a _ plusZero z))); work = t ∙ sym (ifDone-done a _ w z) })
+      rw (← e) (record { answer = ap Value (value ∙ sym (ifDone-done a _ plusZero z)) ∙ sym (pointOf-done a _ z); work = t ∙ sym (ifDone-done a _ w z) })

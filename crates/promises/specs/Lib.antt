@@ -2,10 +2,12 @@
 --   SmoothSeries   smoothing a series
 --   Edits          an edit of a stored smoothing
 --   EditLists      any list of edits, and smoothing beside them
+--   Points         a point
 --   Plans          a plan's constructor, divisor and reach
 --   Records        the job record's reader and writer, and that each undoes the other
 pub mod SmoothSeries
 pub mod Edits
 pub mod EditLists
+pub mod Points
 pub mod Plans
 pub mod Records

@@ -1,12 +1,13 @@
 -- Values of results.
--- Laws: ratio-zero (0 over a divisor is plus zero).
+-- Laws: whole-exact (the double of a whole number up to the largest result is that number), ratio-zero (0 over a divisor is plus zero).
 use mathlib.Core.Path.{_≡_, sym, ap, subst, _∙_}
 use mathlib.Core.Bool.{Bool, true, false, cond, true≢false}
-use Prim.Native.Nat.{ℕ, _*_, _≤_, _<_}
+use Prim.Native.Nat.{ℕ, suc, _*_, _≤_, _<_}
 use native.Mathlib.Omega.{arith}
 use native.Mathlib.Nat.{zero-mul, mul-pos, mul-one, lt-irrefl}
-use borrow.Author.Tests.{ne-eqb}
-use lib.IntN.{pos}
+use borrow.Author.Tests.{ne-eqb, le-ltb}
+use lib.IntN.{ℤ, pos, negsuc, natAbs}
+use lib.Signed.{ltZ}
 use lib.Ieee.{Float, nan, inf, fin, binary64, up, down, round, ofInt, div}
 use lib.Ieee.Exact.{HasValue}
 use lib.Ieee.Back.{round-whole}
@@ -14,6 +15,11 @@ use lib.Ieee.Fits.{down-pos}
 use lib.Ieee.Scale.{round-same}
 use Rattle.meaning.specs.Limits.{least, maxResult}
 use Rattle.meaning.specs.Values.{ratio, plusZero}
+
+pub whole-exact : (z : ℤ) → natAbs z ≤ maxResult → HasValue (ofInt binary64 z) (ltZ z (pos 0)) (natAbs z) 1
+unfolding ofInt round
+whole-exact (pos n) h = subst (λ (b : Bool). HasValue (round binary64 false n 1) b n 1) (sym (le-ltb n 0 (omega arith))) (round-whole binary64 false n (omega arith))
+whole-exact (negsuc n) h = round-whole binary64 true (suc n) (omega arith)
 
 round-zero : (a den : ℕ) → 0 < den → a ≡ 0 → round binary64 false a den ≡ plusZero
 unfolding round
