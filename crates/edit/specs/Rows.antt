@@ -19,7 +19,7 @@ use Rattle.theory.specs.Edits.{resultRow}
 use Rattle.theory.specs.AcceptedEdits.{front, Begun, front-begun, old-passes}
 use Rattle.plan.specs.Structs.{plain}
 use Rattle.plan.specs.Span.{span-one}
-use Rattle.plan.specs.Placed.{placedRows, placed-refused, placed-rest}
+use Rattle.theory.specs.Placed.{placedRows, placed-refused, placed-rest}
 
 unfoldable pub frontRows : List Stage → ℕ → ℕ → ℤ → List ℤ → ℕ → ℕ → List Row
 frontRows ss M p v f nr nw = front ss M p v f nr nw ++ sampleRow M f (λ i. eqb i p) ∷ []

@@ -1,12 +1,13 @@
 // The two walks over the results within reach: the first tests, the second writes.
 ghost use mathlib.Core.Path.{_≡_};
-ghost use mathlib.Core.Bool.{_&&_, _||_};
+ghost use mathlib.Core.Bool.{_||_};
 ghost use mathlib.Core.List.{[], _∷_};
 ghost use Prim.Native.Nat.{_*_, _≤_, _<_};
 ghost use lib.ListN.{length};
 ghost use lib.IntN.{natAbs, _+ℤ_};
 ghost use Rattle.meaning.specs.Limits.{maxResult};
 ghost use Rattle.meaning.specs.Refusals as R;
+ghost use Rattle.theory.specs.Places.{picked};
 ghost use Rattle.plan.specs.Structs.{answerOf, editAnswer};
 ghost use Rattle.edit.specs.Gains.{gainIn, refusedIn, gainedIn, countIn, Gainable, Writable, ChangesIn};
 use plan::Answer;
@@ -21,7 +22,7 @@ fn gain(taps: &[i64], len: usize, p: usize, change: i64, n: usize) -> i64
 }
 
 // Has a result, or would it get, a size above the limit? The sum is formed only where the first has not.
-fn passes_limit(limit: u64, old: i64, gain: i64) -> bool
+fn too_large(limit: u64, old: i64, gain: i64) -> bool
     requires { ⌜ (limit ≤ maxResult) × (natAbs gain ≤ 2 * maxResult) ⌝ }
     ensures { λ r. ⌜ r ≡ R.above limit old || R.above limit (old +ℤ gain) ⌝ }
 {
@@ -42,12 +43,12 @@ fn result_refusal(
     end: usize,
 ) -> Answer
     requires { ⌜ (limit ≤ maxResult) × (end ≤ length (now results)) × Gainable (now taps) (length (now results)) p change ⌝ }
-    ensures { λ r. ⌜ answerOf r ≡ R.firstOf (R.rowAt 12 (length (now (results .entry))) (λ n. R.within start end n && refusedIn limit (now (taps .entry)) p change (now (results .entry)) n) ∷ []) ⌝ }
+    ensures { λ r. ⌜ answerOf r ≡ R.firstOf (R.rowAt 12 (length (now (results .entry))) (picked start end (refusedIn limit (now (taps .entry)) p change (now (results .entry)))) ∷ []) ⌝ }
 {
     let mut n = start;
     while n < end {
         let g = gain(taps, results.len(), p, change, n);
-        if passes_limit(limit, results[n], g) {
+        if too_large(limit, results[n], g) {
             return Answer {
                 number: 12,
                 position: n,

@@ -2,6 +2,7 @@
 ghost use mathlib.Core.Path.{_≡_};
 ghost use Prim.Native.Nat.{_+_, _*_};
 ghost use lib.ListN.{length};
+ghost use Rattle.meaning.specs.Limits.{maxTaps};
 ghost use Rattle.meaning.specs.Kernel.{reach, divisor};
 ghost use Rattle.plan.specs.Structs.{stagesOf, editAnswer};
 ghost use Rattle.edit.specs.Steps.{Changes, Editable};
@@ -37,7 +38,7 @@ fn with_room(
     other: &mut [i64],
 ) -> Edited
     requires { ⌜ Editable (stagesOf plan) bound p change (now results) ⌝ }
-    requires { ⌜ (length (now taps) ≡ 4097) × (length (now other) ≡ 4097) ⌝ }
+    requires { ⌜ (length (now taps) ≡ maxTaps) × (length (now other) ≡ maxTaps) ⌝ }
     ensures { λ r. ⌜ Changes (stagesOf plan) (bound * divisor (stagesOf plan)) p change (now (results .entry)) (editAnswer r) (r .count) (now (results .exit)) ⌝ }
 {
     let count = taps::inner::tap_count(plan);

@@ -4,6 +4,7 @@
 --   maxBound                         of the sample bound M
 --   maxResult                        of M times the divisor
 --   maxLength, maxSide               of a series and of a picture's cells; of its width and height
+--   maxTaps                          of an accepted plan's taps from the centre outward; that no plan has more is a law
 --   maxSigma                         of the planner's sigma, in hundredths
 --   maxSamples, maxJob               of a job: samples of its record, bytes of the program's input
 use Prim.Native.Nat.{ℕ}
@@ -31,6 +32,9 @@ maxLength = 65536
 
 abbrev pub maxSide : ℕ
 maxSide = 4096
+
+abbrev pub maxTaps : ℕ
+maxTaps = 4097
 
 abbrev pub maxSigma : ℕ
 maxSigma = 25600

@@ -2,10 +2,8 @@
 --   Structs   the code's structs as the definitions have them
 --   Capped    products that cannot wrap
 --   Tested    what the tests say of a plan
---   Placed    what the tests say of a place
 --   Span      what lies within reach of a place
 pub mod Structs
 pub mod Capped
 pub mod Tested
-pub mod Placed
 pub mod Span

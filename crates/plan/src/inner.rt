@@ -1,9 +1,8 @@
 // The tests that calls share. A number answered is the first row that applies, 0 where none does.
 ghost use mathlib.Core.Path.{_≡_};
 ghost use mathlib.Core.Bool.{_||_};
-ghost use mathlib.Core.List.{List, [], _∷_, _++_};
+ghost use mathlib.Core.List.{List, [], _∷_};
 ghost use Prim.Native.Nat.{_+_, _*_, _^_, _≤_, _<_};
-ghost use lib.Dec.{leb};
 ghost use lib.ListN.{length};
 ghost use lib.IntN.{natAbs};
 ghost use Rattle.meaning.specs.Limits.{least, maxPasses, maxRadius, maxInner, maxBound, maxResult, maxLength, maxSide};
@@ -11,6 +10,7 @@ ghost use Rattle.meaning.specs.Kernel.{Stage, tapSum, tapReach, divisor};
 ghost use Rattle.meaning.specs.Refusals as R;
 ghost use Rattle.meaning.specs.Refusals.{_when_};
 ghost use Rattle.meaning.specs.Calls as C;
+ghost use Rattle.theory.specs.Placed.{placedRows};
 ghost use Rattle.plan.specs.Structs.{stageOf, stagesOf, answerOf, plain};
 ghost use Rattle.plan.specs.Tested.{Tested};
 ghost use Rattle.plan.specs.Capped.{capped};
@@ -151,7 +151,7 @@ pub fn position_refusal(
     wrong_length: bool,
     position: usize,
 ) -> u64
-    ensures { λ r. ⌜ plain r ≡ R.firstOf (R.commonRows (R.seriesOf (stagesOf plan) cells) bound «wrong_length» ++ (9 when leb cells position) ∷ []) ⌝ }
+    ensures { λ r. ⌜ plain r ≡ R.firstOf (placedRows (stagesOf plan) bound cells «wrong_length» position) ⌝ }
 {
     let number = series_refusal(plan, bound, cells, wrong_length);
     if number != 0 {

@@ -21,7 +21,7 @@ use Rattle.theory.specs.AcceptedPoints.{point-allowed}
 use Rattle.plan.specs.declared.Point.the-variants.{Value, Refused}
 use Rattle.plan.specs.Structs.{pointOf-done, pointOf-refused}
 use Rattle.plan.specs.Span.{low, high}
-use Rattle.plan.specs.Placed.{placedRows, placed-refused, placed-rest}
+use Rattle.theory.specs.Placed.{placedRows, placed-refused, placed-rest}
 use Rattle.point.specs.Contract.{Gives}
 use Rattle.point.specs.Shares.{Pointable}
 

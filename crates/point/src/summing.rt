@@ -6,6 +6,7 @@ ghost use lib.IntN.{pos, _+ℤ_, _*ℤ_};
 ghost use mir.Syntax.{w64};
 ghost use mir.Val.{SFits};
 ghost use Rattle.algebra.specs.Sum.{sum};
+ghost use Rattle.meaning.specs.Limits.{maxTaps};
 ghost use Rattle.meaning.specs.Extension.{fold};
 ghost use Rattle.meaning.specs.Kernel.{reach};
 ghost use Rattle.meaning.specs.Smoothing as S;
@@ -27,7 +28,7 @@ pub(crate) fn result(plan: Plan, samples: &[i32], n: usize) -> i64
 // The same, with room for the most taps.
 fn with_room(plan: Plan, samples: &[i32], n: usize, taps: &mut [i64], other: &mut [i64]) -> i64
     requires { ⌜ Pointable (stagesOf plan) n (now samples) ⌝ }
-    requires { ⌜ (length (now taps) ≡ 4097) × (length (now other) ≡ 4097) ⌝ }
+    requires { ⌜ (length (now taps) ≡ maxTaps) × (length (now other) ≡ maxTaps) ⌝ }
     ensures { λ r. ⌜ r ≡ S.result fold (stagesOf plan) (now (samples .entry)) (pos n) ⌝ }
 {
     let count = taps::inner::tap_count(plan);

@@ -4,6 +4,7 @@ ghost use mathlib.Core.List.{[]};
 ghost use Prim.Native.Nat.{_+_, _≤_};
 ghost use lib.ListN.{length, replicate};
 ghost use lib.IntN.{pos, _+ℤ_};
+ghost use Rattle.meaning.specs.Limits.{maxTaps};
 ghost use Rattle.meaning.specs.Extension.{at};
 ghost use Rattle.meaning.specs.Kernel as K;
 ghost use Rattle.meaning.specs.Smoothing as S;
@@ -18,10 +19,15 @@ use plan::Plan;
 // The most taps that an accepted plan has from the centre outward.
 pub const MOST_TAPS: usize = 4097;
 
-// How many it has.
+// No code calls this: it is proved, so that the constant is the number of the definitions.
+fn most_taps_agree()
+    ensures { λ _. do ⌜ maxTaps ≡ (← ⟦MOST_TAPS⟧ .entry) ⌝ }
+{}
+
+// How many a plan has.
 pub fn tap_count(plan: Plan) -> usize
     requires { ⌜ AcceptedPlan (stagesOf plan) ⌝ }
-    ensures { λ r. ⌜ r ≡ K.reach (stagesOf plan) + 1 ⌝ }
+    ensures { λ r. ⌜ (r ≡ K.reach (stagesOf plan) + 1) × (r ≤ maxTaps) ⌝ }
 {
     plan.reach() as usize + 1
 }
@@ -79,12 +85,11 @@ fn stage_more(plan: Plan, src: &[i64], dst: &mut [i64])
 
 // The taps of no stage.
 fn no_stages(dst: &mut [i64])
+    requires { ⌜ 1 ≤ length (now dst) ⌝ }
     ensures { λ _. ⌜ now (dst .exit) ≡ tapsOf (length (now (dst .entry))) [] ⌝ }
 {
     series::inner::clear(dst);
-    if 0 < dst.len() {
-        dst[0] = 1;
-    }
+    dst[0] = 1;
 }
 
 // The taps of k stages into dst. Those of one stage less stand in the other slice.

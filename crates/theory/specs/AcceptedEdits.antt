@@ -7,14 +7,14 @@ use mathlib.Core.Bool.{Bool, true, false, _&&_, _||_, true≢false}
 use mathlib.Core.List.{List, [], _∷_, _++_}
 use Prim.Native.Nat.{ℕ, _*_, _≤_, _<_}
 use native.Mathlib.Omega.{arith}
-use lib.Dec.{leb, eqb}
+use lib.Dec.{eqb}
 use lib.ListN.{length}
 use lib.IntN.{ℤ, pos, natAbs, _+ℤ_, _-ℤ_, _*ℤ_}
-use borrow.Author.Tests.{ltb-true, ltb-false, leb-false, lt-ltb, le-ltb, lt-leb, eqb-true, eq-eqb}
+use borrow.Author.Tests.{ltb-true, ltb-false, lt-ltb, le-ltb, eqb-true, eq-eqb}
 use Rattle.meaning.specs.Extension.{at, IndexMap}
 use Rattle.meaning.specs.Kernel.{Stage, reach, divisor}
 use Rattle.meaning.specs.Smoothing.{results, weight, apart, near}
-use Rattle.meaning.specs.Refusals.{Answer, Row, _when_, firstOf, rowAt, differs, above, seriesOf, planRows, sizeRows, commonRows}
+use Rattle.meaning.specs.Refusals.{Answer, Row, _when_, firstOf, rowAt, differs, above, planRows, sizeRows}
 use Rattle.meaning.specs.Calls.{sampleRow, editRoom, gained, editRows}
 use Rattle.meaning.specs.Bounds.{AllowedLength, AllowedEdit, FirstAt, TooLarge}
 use Rattle.theory.specs.Folding.{Nearness}
@@ -24,7 +24,7 @@ use Rattle.theory.specs.Refusals.{done, Off, Numbered, Rising, Unplaced,
 use Rattle.theory.specs.Places.{rowAt-off, rowAt-none, rowAt-answer, first-map}
 use Rattle.theory.specs.Tests.{or-no, no-or, or-yes, yes-or, and-yes, yes-and, and-no, no-and, and-when, differs-no, no-differs}
 use Rattle.theory.specs.Edits.{resultRow, gained-near, fresh-passes}
-use Rattle.theory.specs.Accepted.{length-allowed, allowed-length}
+use Rattle.theory.specs.Placed.{placedRows, off-placed, placed-off}
 
 module _ (ss : List Stage) (M p : ℕ) (v : ℤ) (f r new : List ℤ) (nw : ℕ) where
   pub edit-rising : Rising (editRows ss M p v f r new nw)
@@ -37,11 +37,8 @@ module _ (ss : List Stage) (M p : ℕ) (v : ℤ) (f r new : List ℤ) (nw : ℕ)
 
 -- ---- rows 1 to 10
 module _ (ss : List Stage) (M p : ℕ) (v : ℤ) (f : List ℤ) (nr nw : ℕ) where
-  abbrev common : List Row
-  common = commonRows (seriesOf ss (length f)) M (differs nr (length f) || differs nw (editRoom ss (length f)))
-
   abbrev pub front : List Row
-  front = common ++ (9 when leb (length f) p) ∷ (10 when above M v) ∷ []
+  front = placedRows ss M (length f) (differs nr (length f) || differs nw (editRoom ss (length f))) p ++ (10 when above M v) ∷ []
 
   front-unplaced : Unplaced 11 front
   unfolding planRows sizeRows
@@ -57,13 +54,13 @@ module _ (ss : List Stage) (M p : ℕ) (v : ℤ) (f : List ℤ) (nr nw : ℕ) wh
 
   pub front-begun : Off front → Begun
   front-begun h =
-      let (c, t) = append-off common _ h in
-      let (ok, w) = length-allowed ss M (length f) c in
+      let (c, t) = append-off (placedRows ss M (length f) (differs nr (length f) || differs nw (editRoom ss (length f))) p) _ h in
+      let (ok, w, l) = off-placed ss M (length f) _ p c in
       let (a, b) = or-no (differs nr (length f)) (differs nw (editRoom ss (length f))) w in
-      record { common = ok; results = differs-no _ _ a; work = differs-no _ _ b; position = leb-false _ _ (t .0); value = ltb-false _ _ (t .1 .0) }
+      record { common = ok; results = differs-no _ _ a; work = differs-no _ _ b; position = l; value = ltb-false _ _ (t .0) }
 
   begun-front : Begun → Off front
-  begun-front ok = off-append common _ (allowed-length ss M (length f) (ok .common) (no-or (no-differs (ok .results)) (no-differs (ok .work)))) (lt-leb _ _ (ok .position), (le-ltb _ _ (ok .value), tt))
+  begun-front ok = off-append (placedRows ss M (length f) _ p) _ (placed-off ss M (length f) _ p (ok .common) (no-or (no-differs (ok .results)) (no-differs (ok .work))) (ok .position)) (le-ltb _ _ (ok .value), tt)
 
 -- ---- rows 11 and 12
 pub old-passes : (M p : ℕ) (f : List ℤ) → p < length f → sampleRow M f (λ i. eqb i p) .applies ≡ false → natAbs (at f p) ≤ M

@@ -5,14 +5,13 @@ use mathlib.Core.Bool.{_&&_}
 use mathlib.Core.List.{List, [], _∷_, _++_}
 use Prim.Native.Nat.{ℕ, _≤_, _<_}
 use native.Mathlib.Omega.{arith}
-use lib.Dec.{leb}
 use lib.ListN.{length}
 use lib.IntN.{ℤ, pos, natAbs}
-use borrow.Author.Tests.{ltb-true, ltb-false, leb-false, lt-ltb, le-ltb, lt-leb}
+use borrow.Author.Tests.{ltb-true, ltb-false, lt-ltb, le-ltb}
 use Rattle.meaning.specs.Extension.{at, IndexMap}
 use Rattle.meaning.specs.Kernel.{Stage, reach, divisor}
 use Rattle.meaning.specs.Smoothing.{result, apart, near}
-use Rattle.meaning.specs.Refusals.{Answer, Row, _when_, firstOf, rowAt, differs, above, seriesOf, planRows, sizeRows, commonRows}
+use Rattle.meaning.specs.Refusals.{Answer, Row, firstOf, rowAt, differs, above, planRows, sizeRows}
 use Rattle.meaning.specs.Values.{ratio, plusZero}
 use Rattle.meaning.specs.Calls.{sampleRow, editRoom, pointRows, point}
 use Rattle.meaning.specs.Bounds.{AllowedPoint, FirstAt}
@@ -21,14 +20,11 @@ use Rattle.theory.specs.Local.{near-yes, near-true, result-local}
 use Rattle.theory.specs.Refusals.{done, Numbered, Rising, Unplaced, done-off, off-done, off-append, append-off, ifDone-ext}
 use Rattle.theory.specs.Places.{rowAt-ext, rowAt-off, rowAt-none, place-here, place-other, first-map}
 use Rattle.theory.specs.Tests.{and-yes, yes-and, and-no, no-and, and-when, differs-no, no-differs}
-use Rattle.theory.specs.Accepted.{length-allowed, allowed-length}
+use Rattle.theory.specs.Placed.{placedRows, off-placed, placed-off}
 
 module _ (ss : List Stage) (M n : ℕ) (f : List ℤ) (nw : ℕ) where
-  abbrev common : List Row
-  common = commonRows (seriesOf ss (length f)) M (differs nw (editRoom ss (length f)))
-
   abbrev front : List Row
-  front = common ++ (9 when leb (length f) n) ∷ []
+  front = placedRows ss M (length f) (differs nw (editRoom ss (length f))) n
 
   abbrev rows : List Row
   rows = pointRows ss M n f nw
@@ -50,23 +46,20 @@ module _ (ss : List Stage) (M n : ℕ) (f : List ℤ) (nw : ℕ) where
   parts = refl
 
   pub point-allowed : firstOf rows .number ≡ 0 → AllowedPoint ss M n f nw
-  unfolding pointRows
   point-allowed e =
-      let (h, t) = append-off common _ (done-off rows point-numbered e) in
-      let (ok, w) = length-allowed ss M (length f) h in
+      let (h, t) = append-off front _ (rw parts at (done-off rows point-numbered e)) in
+      let (ok, w, l) = off-placed ss M (length f) _ n h in
       record {
         common = ok;
         work = differs-no _ _ w;
-        position = leb-false _ _ (t .0);
-        samples = λ i l k. ltb-false _ _ (and-no (near ss i n) _ (rowAt-none 11 (length f) _ (t .1 .0) i l) (near-yes ss i n k));
+        position = l;
+        samples = λ i l k. ltb-false _ _ (and-no (near ss i n) _ (rowAt-none 11 (length f) _ (t .0) i l) (near-yes ss i n k));
       }
 
   pub allowed-point : AllowedPoint ss M n f nw → firstOf rows ≡ done
-  unfolding pointRows
-  allowed-point ok = off-done rows (off-append common _ (allowed-length ss M (length f) (ok .common) (no-differs (ok .work))) (
-    lt-leb _ _ (ok .position),
-    (rowAt-off 11 (length f) (λ i l. no-and (near ss i n) _ (λ t. le-ltb _ _ (ok .samples i l (near-true ss i n t)))), tt),
-  ))
+  allowed-point ok =
+      let samples = rowAt-off 11 (length f) (λ i l. no-and (near ss i n) _ (λ t. le-ltb _ _ (ok .samples i l (near-true ss i n t)))) in
+      rw parts (off-done _ (off-append front _ (placed-off ss M (length f) _ n (ok .common) (no-differs (ok .work)) (ok .position)) (samples, tt)))
 
   module _ {x : Answer} (e : x ≡ firstOf rows) where
     pub point-position : x .number ≡ 11 → FirstAt (length f) (λ i. (apart i n ≤ reach ss) × (M < natAbs (at f i))) (x .position)

@@ -2,7 +2,7 @@
 --   Folding      what an index map must be for the laws
 --   HalfSample   the map of document 01 is one
 --   Lists        lists by their elements, and how large those are
---   Fill         a list written from the front
+--   Fill         a list written by a loop
 --   Kernel       symmetric, never negative, 0 beyond the reach
 --   Convolution  a stage in front, stages one after the other; linear; the kernel's sum
 --   Stages       the numbers of stages one after the other, and of K equal ones
@@ -26,9 +26,10 @@
 --   Encoding     numbers as bytes and as text
 --   Records      the job record: what is written is read, what is read as done was written
 --   Accepted     a call is done exactly where the bounds hold
---   Farthest     how far an accepted plan reaches at most
---   AcceptedEdits, AcceptedPoints   the same of an edit and of a point
+--   Placed       rows 1 to 9 of a call with a place, and what follows them
+--   AcceptedEdits, AcceptedPoints   an edit and a point are done exactly where their bounds hold
 --   Stored       what an edit leaves of a stored smoothing
+--   Farthest     how far an accepted plan reaches at most
 --   Programs     what the program prints
 -- A law over an index map φ takes `F : Folding φ`, and where it speaks of reach `C : Nearness φ`: for document 01, half-sample and half-sample-near.
 pub mod Folding
@@ -58,8 +59,9 @@ pub mod Values
 pub mod Encoding
 pub mod Records
 pub mod Accepted
-pub mod Farthest
+pub mod Placed
 pub mod AcceptedEdits
 pub mod AcceptedPoints
 pub mod Stored
+pub mod Farthest
 pub mod Programs

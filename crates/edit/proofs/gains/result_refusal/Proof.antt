@@ -26,14 +26,14 @@ loop-holds c = (omega arith, walk-start (c .args .start) (c .args .end) _)
 gain-requires : tie.Need-gain-requires Inv-loop μ-loop
 gain-requires c κs = (omega arith, rw (toZ-ofZ (c .before .before .fits .change)) (c .before .before .pre .2))
 
-mul-passes-limit : tie.Need-mul-passes-limit Inv-loop μ-loop
-mul-passes-limit c = search needs
+mul-too-large : tie.Need-mul-too-large Inv-loop μ-loop
+mul-too-large c = search needs
 
-shared-slice-copy-out-passes-limit : tie.Need-shared-slice-copy-out-passes-limit Inv-loop μ-loop
-shared-slice-copy-out-passes-limit c = search needs
+shared-slice-copy-out-too-large : tie.Need-shared-slice-copy-out-too-large Inv-loop μ-loop
+shared-slice-copy-out-too-large c = search needs
 
 -- what the turn reads
-module _ (c : tie.After-passes-limit-arg Inv-loop μ-loop) where
+module _ (c : tie.After-too-large-arg Inv-loop μ-loop) where
   abbrev start : tie.Start Inv-loop μ-loop
   start = c .before .before .before .before
 
@@ -44,20 +44,20 @@ module _ (c : tie.After-passes-limit-arg Inv-loop μ-loop) where
   gain-is = toZ-ofZ (sfits-of (c .before .gain .ok)) ∙ c .before .gain .ensures ∙ rw (toZ-ofZ (start .fits .change))
 
   old-is : toZ w64 (ofZ w64 (at (start .args .results .now) n)) ≡ at (start .args .results .now) n
-  old-is = toZ-ofZ (sfits-of (c .passes-limit-arg .given))
+  old-is = toZ-ofZ (sfits-of (c .too-large-arg .given))
 
   abbrev refused : ℕ → Bool
   refused = refusedIn (start .args .limit) (start .args .taps .now) (start .args .p) (start .args .change) (start .args .results .now)
 
-test-is : (c : tie.After-passes-limit Inv-loop μ-loop) → refused (c .before) (n (c .before)) ≡ c .passes-limit .result
+test-is : (c : tie.After-too-large Inv-loop μ-loop) → refused (c .before) (n (c .before)) ≡ c .too-large .result
 unfolding refusedIn movedIn
-test-is c = sym (c .passes-limit .ensures ∙ rw (old-is (c .before), gain-is (c .before)))
+test-is c = sym (c .too-large .ensures ∙ rw (old-is (c .before), gain-is (c .before)))
 
-clear : (c : tie.After-passes-limit-arg Inv-loop μ-loop) → Clear (picked (start c .args .start) (start c .args .end) (refused c)) (n c)
+clear : (c : tie.After-too-large-arg Inv-loop μ-loop) → Clear (picked (start c .args .start) (start c .args .end) (refused c)) (n c)
 clear c = rw (toZ-ofZ (start c .fits .change)) at (c .before .before .before .loop .inv .1)
 
-passes-limit-requires : tie.Need-passes-limit-requires Inv-loop μ-loop
-passes-limit-requires c κs = (start c .pre .0, rw (gain-is c) (start c .pre .2 .gains (n c) (omega arith) .bound))
+too-large-requires : tie.Need-too-large-requires Inv-loop μ-loop
+too-large-requires c κs = (start c .pre .0, rw (gain-is c) (start c .pre .2 .gains (n c) (omega arith) .bound))
 
 returns : tie.Need-returns Inv-loop μ-loop
 returns c =
@@ -88,9 +88,9 @@ result-refusal-spec =
     μ-loop
     loop-holds
     gain-requires
-    mul-passes-limit
-    shared-slice-copy-out-passes-limit
-    passes-limit-requires
+    mul-too-large
+    shared-slice-copy-out-too-large
+    too-large-requires
     returns
     add-n
     loop-less

@@ -1,20 +1,12 @@
 -- An accepted plan has no more taps than there is room for.
-use Prim.Native.Nat.{_<_}
-use native.Mathlib.Omega.{arith}
 use borrow.Author.Needs.{needs}
-use lib.ListN.{length-take}
 use mir.Facts.{toZ-ofZ}
 use Rattle.theory.specs.Accepted.{length-accepted}
-use Rattle.theory.specs.Farthest.{reach-most}
-use Rattle.plan.specs.Structs.{stageOf}
 use Rattle.edit.proofs.holding.with_room.Statement.{statement}
 use Rattle.edit.proofs.holding.with_room.Tie as tie
 
 tap-count-requires : tie.Need-tap-count-requires
 tap-count-requires c κs = length-accepted (c .pre .0 .common)
-
-few : (c : tie.After-tap-count) → c .tap-count .result < 4098
-few c = let p = c .before .args .plan in omega (arith, c .tap-count .ensures, reach-most (p .passes) (stageOf p) (length-accepted (c .before .pre .0 .common)))
 
 sub-with-taps : tie.Need-sub-with-taps
 sub-with-taps c = search needs
@@ -23,7 +15,7 @@ part-with-taps-start : tie.Need-part-with-taps-start
 part-with-taps-start c = search needs
 
 part-with-taps-end : tie.Need-part-with-taps-end
-part-with-taps-end c = omega (arith, few (c .before), c .before .before .pre .1)
+part-with-taps-end c = search needs
 
 sub-with-taps-2 : tie.Need-sub-with-taps-2
 sub-with-taps-2 c = search needs
@@ -32,13 +24,10 @@ part-with-taps-start-2 : tie.Need-part-with-taps-start-2
 part-with-taps-start-2 c = search needs
 
 part-with-taps-end-2 : tie.Need-part-with-taps-end-2
-part-with-taps-end-2 c = omega (arith, few (c .before .before), c .before .before .before .pre .1)
+part-with-taps-end-2 c = search needs
 
 with-taps-requires : tie.Need-with-taps-requires
-with-taps-requires c κs =
-    let s = c .before .before .before .before in
-    let t = c .before .before .before in
-    (rw (toZ-ofZ (s .fits .change)) (s .pre .0), (simp length-take (omega (arith, t .tap-count .ensures, few t, s .pre .1)), simp length-take (omega (arith, t .tap-count .ensures, few t, s .pre .1))))
+with-taps-requires c κs = let s = c .before .before .before .before in (rw (toZ-ofZ (s .fits .change)) (s .pre .0), search needs)
 
 same-length : tie.Need-same-length
 same-length c = search needs

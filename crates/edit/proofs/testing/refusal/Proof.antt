@@ -10,7 +10,7 @@ use mir.Facts.{toZ-ofZ}
 use Rattle.meaning.specs.Refusals.{differs}
 use Rattle.meaning.specs.Calls.{editRoom}
 use Rattle.plan.specs.Structs.{stagesOf}
-use Rattle.plan.specs.Placed.{placed-allowed}
+use Rattle.theory.specs.Placed.{placed-allowed}
 use Rattle.edit.specs.Rows.{front-refused, front-value, front-sample}
 use Rattle.edit.proofs.testing.refusal.Statement.{statement}
 use Rattle.edit.proofs.testing.refusal.Tie as tie

@@ -1,18 +1,11 @@
 -- An accepted plan has no more taps than there is room for.
-use Prim.Native.Nat.{_<_}
-use native.Mathlib.Omega.{arith}
 use borrow.Author.Needs.{needs}
 use Rattle.theory.specs.Accepted.{length-accepted}
-use Rattle.theory.specs.Farthest.{reach-most}
-use Rattle.plan.specs.Structs.{stageOf}
 use Rattle.point.proofs.summing.with_room.Statement.{statement}
 use Rattle.point.proofs.summing.with_room.Tie as tie
 
 tap-count-requires : tie.Need-tap-count-requires
 tap-count-requires c κs = length-accepted (c .pre .0 .common)
-
-few : (c : tie.After-tap-count) → c .tap-count .result < 4098
-few c = let p = c .before .args .plan in omega (arith, reach-most (p .passes) (stageOf p) (length-accepted (c .before .pre .0 .common)))
 
 sub-with-taps : tie.Need-sub-with-taps
 sub-with-taps c = search needs
@@ -21,7 +14,7 @@ part-with-taps-start : tie.Need-part-with-taps-start
 part-with-taps-start c = search needs
 
 part-with-taps-end : tie.Need-part-with-taps-end
-part-with-taps-end c = omega (arith, few c)
+part-with-taps-end c = search needs
 
 sub-with-taps-2 : tie.Need-sub-with-taps-2
 sub-with-taps-2 c = search needs
@@ -30,7 +23,7 @@ part-with-taps-start-2 : tie.Need-part-with-taps-start-2
 part-with-taps-start-2 c = search needs
 
 part-with-taps-end-2 : tie.Need-part-with-taps-end-2
-part-with-taps-end-2 c = omega (arith, few (c .before))
+part-with-taps-end-2 c = search needs
 
 with-taps-requires : tie.Need-with-taps-requires
 with-taps-requires c κs = search needs

@@ -11,7 +11,7 @@ use Rattle.meaning.specs.Bounds.{AllowedLength}
 use Rattle.theory.specs.Accepted.{accepted-reach, length-accepted}
 use Rattle.theory.specs.Farthest.{reach-most}
 use Rattle.plan.specs.Structs.{stageOf, stagesOf}
-use Rattle.plan.specs.Placed.{placed-allowed}
+use Rattle.theory.specs.Placed.{placed-allowed}
 use Rattle.point.specs.Steps.{test-refused, test-sample}
 use Rattle.point.proofs.testing.refusal.Statement.{statement}
 use Rattle.point.proofs.testing.refusal.Tie as tie

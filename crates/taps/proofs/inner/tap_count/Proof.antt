@@ -18,7 +18,9 @@ add-result c =
     omega (arith, accepted-reach (stagesOf p) (c .before .pre), reach-most (p .passes) (stageOf p) (c .before .pre))
 
 returns : tie.Need-returns
-returns c = ap (λ n. n + 1) (c .reach .ensures ∙ accepted-reach _ (c .before .pre))
+returns c =
+    let p = c .before .args .plan in
+    (ap (λ n. n + 1) (c .reach .ensures ∙ accepted-reach _ (c .before .pre)), omega (arith, c .reach .ensures, accepted-reach (stagesOf p) (c .before .pre), reach-most (p .passes) (stageOf p) (c .before .pre)))
 
 pub tap-count-spec : {M : Type 1} → statement M
 tap-count-spec = tie.close (tie.spec reach-requires add-result returns)

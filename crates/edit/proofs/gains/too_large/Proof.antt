@@ -5,8 +5,8 @@ use borrow.Author.Tests.{lt-ltb, le-ltb}
 use lib.IntN.{natAbs}
 use mir.Facts.{toZ-ofZ}
 use Rattle.edit.specs.Gains.{sum-fits}
-use Rattle.edit.proofs.gains.passes_limit.Statement.{statement}
-use Rattle.edit.proofs.gains.passes_limit.Tie as tie
+use Rattle.edit.proofs.gains.too_large.Statement.{statement}
+use Rattle.edit.proofs.gains.too_large.Tie as tie
 
 size-requires : tie.Need-size-requires
 size-requires c κs = search needs
@@ -30,5 +30,5 @@ returns-2 c =
     let a = c .before .before .before in
     rw (c .size2 .ensures, toZ-ofZ (add-size (c .before)), toZ-ofZ (a .fits .old), toZ-ofZ (a .fits .gain), le-ltb (a .args .limit) (natAbs (a .args .old)) (rw (← old-size (c .before .before)) (c .before .if1 .left)))
 
-pub passes-limit-spec : {M : Type 1} → statement M
-passes-limit-spec = tie.close (tie.spec size-requires returns add-size size-requires-2 returns-2)
+pub too-large-spec : {M : Type 1} → statement M
+too-large-spec = tie.close (tie.spec size-requires returns add-size size-requires-2 returns-2)
