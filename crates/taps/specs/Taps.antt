@@ -5,7 +5,7 @@
 --   Held ss xs         xs holds the kernel of ss: at every offset, 0 past its end
 --   Stageable p xs n   one stage more of p from xs into n cells: as many cells, and room for every sum
 --   Ready p nd no      an accepted plan, and as many cells as it has taps or more, in both slices
--- Laws: mirrored-apart, length-staged, at-staged; tapsOf-none, tapsOf-held, held-nonneg (no tap is negative), staged-taps (one stage more);
+-- Laws: mirrored-apart, length-staged, at-staged; tapsOf-none, tapsOf-held, held-nonneg (no tap is negative);
 -- swapped, stageable, stage-next (the steps of the recursion).
 use Prim.Native.Nat.{ℕ, zero, suc, _<_}
 use mathlib.Core.Path.{_≡_, refl, sym, _∙_, ap}
@@ -93,7 +93,7 @@ module _ {ss : List Stage} {xs : List ℤ} (h : Held ss xs) where
   mirrored-held (pos n) = h .tap n
   mirrored-held (negsuc n) = h .tap (suc n) ∙ sym (kernel-symmetric ss (pos (suc n)))
 
-pub staged-taps : (s : Stage) (ss : List Stage) {L : ℕ} {xs : List ℤ} → reach ss < L → xs ≡ tapsOf L ss → staged s xs ≡ tapsOf L (s ∷ ss)
+staged-taps : (s : Stage) (ss : List Stage) {L : ℕ} {xs : List ℤ} → reach ss < L → xs ≡ tapsOf L ss → staged s xs ≡ tapsOf L (s ∷ ss)
 unfolding staged
 staged-taps s ss {L} {xs} h e =
     ap (λ n. listOf n (λ m. passAt s (mirrored xs) (pos m))) (ap length e ∙ length-tapsOf L ss)

@@ -1,5 +1,5 @@
 -- The rows of a point: it is done exactly where its bounds hold, and which positions it answers. Its answer and value depend only on samples within reach.
--- Laws: point-rising, point-numbered; point-allowed, allowed-point; point-position (at 11), point-no-position (else); pointRows-local, point-local.
+-- Laws: point-rising, point-numbered; point-allowed, allowed-point; point-position (at 11), point-no-position (else); point-local.
 use mathlib.Core.Path.{_≡_, refl, _∙_, ap}
 use mathlib.Core.Bool.{_&&_}
 use mathlib.Core.List.{List, [], _∷_, _++_}
@@ -73,7 +73,7 @@ module _ (ss : List Stage) (M n : ℕ) (f : List ℤ) (nw : ℕ) where
 
 -- ---- samples within reach
 module _ (ss : List Stage) (M n : ℕ) (f g : List ℤ) (e : length f ≡ length g) (k : (i : ℕ) → i < length f → apart i n ≤ reach ss → at f i ≡ at g i) where
-  pub pointRows-local : (nw : ℕ) → pointRows ss M n f nw ≡ pointRows ss M n g nw
+  pointRows-local : (nw : ℕ) → pointRows ss M n f nw ≡ pointRows ss M n g nw
   unfolding pointRows
   pointRows-local nw = rw (← e, rowAt-ext 11 (length f) {t = λ i. near ss i n && above M (at f i)} {u = λ i. near ss i n && above M (at g i)} (λ i l. and-when (near ss i n) (λ t. rw (k i l (near-true ss i n t)))))
 

@@ -1,5 +1,5 @@
 -- At how many places a test is true, and how many results changed.
--- Laws: count-ext, count-none, count-within; changed-none, changed-where.
+-- Laws: count-ext, count-within; changed-none, changed-where.
 use mathlib.Core.Path.{_≡_, refl}
 use mathlib.Core.Logic.{_≢_}
 use mathlib.Core.Bool.{Bool, true, false, cond, _||_}
@@ -21,7 +21,7 @@ unfolding countWhere
 count-ext zero e = refl
 count-ext (suc N) {t} {u} e = rw (e N (omega arith), count-ext N {t = t} {u = u} (λ i l. e i (omega arith)))
 
-pub count-none : (N : ℕ) {t : ℕ → Bool} → ((i : ℕ) → i < N → t i ≡ false) → countWhere N t ≡ 0
+count-none : (N : ℕ) {t : ℕ → Bool} → ((i : ℕ) → i < N → t i ≡ false) → countWhere N t ≡ 0
 unfolding countWhere
 count-none zero e = refl
 count-none (suc N) {t} e = rw (e N (omega arith), count-none N {t = t} (λ i l. e i (omega arith)))

@@ -1,6 +1,6 @@
 -- What an edit makes of results: those within reach gain, all others stay, and of a true smoothing comes that of the new samples.
 --   resultRow ss L p r new   row 12 of an edit, under the limit L
--- Laws: length-gained, gained-near, gained-far, gained-none (by no change); gained-changed, gained-changes (which results change), changed-same, changed-all,
+-- Laws: length-gained, gained-near, gained-far; gained-changed, gained-changes (which results change), changed-same, changed-all,
 -- changed-is (how many); gained-fresh (of a true smoothing comes one), fresh-passes (a true smoothing passes row 12).
 use mathlib.Core.Path.{_≡_, refl, sym, _∙_, ap}
 use mathlib.Core.Logic.{_≢_}
@@ -46,7 +46,7 @@ module _ (φ : IndexMap) (ss : List Stage) (p : ℕ) (d : ℤ) (r : List ℤ) wh
     unfolding gained
     gained-far l = at-listOf (length r) _ n h ∙ rw (near-no ss n p l) refl
 
-pub gained-none : (φ : IndexMap) (ss : List Stage) (p : ℕ) (r : List ℤ) → gained φ ss p (pos 0) r ≡ r
+gained-none : (φ : IndexMap) (ss : List Stage) (p : ℕ) (r : List ℤ) → gained φ ss p (pos 0) r ≡ r
 unfolding gained
 gained-none φ ss p r = listOf-ext (length r) (λ n l. rw (zero-*ℤ (weight φ ss (length r) (pos n) p), +ℤ-idr (at r n)) (either (near ss n p) (at r n))) ∙ listOf-at (length r) r refl
   where

@@ -1,8 +1,7 @@
 -- What a sample moves, and what a result depends on: exactly what lies within reach.
 -- Laws: near-yes, near-no, near-true, near-false (the test and the fact), near-within (as a stretch of indices); weight-outside, weight-positive;
--- result-local; set-outside, no-gain, set-inside (of a sample set to another value).
+-- result-local; set-outside (of a sample set to another value), no-gain.
 use mathlib.Core.Path.{_≡_, sym, _∙_}
-use mathlib.Core.Logic.{_≢_}
 use mathlib.Core.Bool.{true, false}
 use mathlib.Core.List.{List}
 use Prim.Native.Nat.{ℕ, _+_, _-_, _≤_, _<_, min}
@@ -13,7 +12,7 @@ use lib.ListN.{length, set}
 use lib.IntN.{ℤ, pos, natAbs, _+ℤ_, _-ℤ_, _*ℤ_, *ℤ-zero, zero-*ℤ, +ℤ-idr}
 use lib.Signed.{_<ℤ_}
 use borrow.Author.Tests.{le-leb, lt-leb, leb-true, leb-false, lt-ltb, le-ltb}
-use Rattle.algebra.specs.Order.{zarith, of+, of-, nonneg-pos, positive-pos, *ℤ-cancel-r}
+use Rattle.algebra.specs.Order.{zarith, of+, nonneg-pos, positive-pos, *ℤ-cancel-r}
 use Rattle.algebra.specs.Size.{natAbs-sub}
 use Rattle.meaning.specs.Extension.{at, IndexMap, ext}
 use Rattle.meaning.specs.Kernel.{Stage, reach, divisor}
@@ -80,9 +79,3 @@ set-outside {φ} C ss f n p v hn hp l = rw (result-set φ ss f p v hp (pos n), w
 -- by a weight above 0 only no change gives no gain
 pub no-gain : (x : ℤ) {d w : ℤ} → pos 0 <ℤ w → x +ℤ d *ℤ w ≡ x → d ≡ pos 0
 no-gain x {d} {w} h e = *ℤ-cancel-r h (omega (zarith, of+ x (d *ℤ w)) ∙ sym (zero-*ℤ w))
-
-pub set-inside : {φ : IndexMap} → Folding φ → {ss : List Stage} → PositiveInner ss → (f : List ℤ) (n p : ℕ) (v : ℤ) → p < length f → apart n p ≤ reach ss → v ≢ at f p → result φ ss (set f p v) (pos n) ≢ result φ ss f (pos n)
-set-inside {φ} F {ss} b f n p v h l d e = d (same v (at f p) (no-gain (result φ ss f (pos n)) (weight-positive F b n p h l) (sym (result-set φ ss f p v h (pos n)) ∙ e)))
-  where
-    same : (v u : ℤ) → v -ℤ u ≡ pos 0 → v ≡ u
-    same v u e = omega (zarith, of- v u)

@@ -1,8 +1,7 @@
 -- The first place where a test is true, and the row that answers with it.
 --   picked start end t   the test t, from start up to end alone
 --   Clear t i            t is false before i
--- Laws: firstWhere-ext, firstWhere-none, firstWhere-is, firstWhere-before, firstWhere-at; clear-next;
--- rowAt-ext, rowAt-on, rowAt-off, rowAt-none, rowAt-answer; place-here, place-other (of rows whose last one alone has a position);
+-- Laws: rowAt-ext, rowAt-off, rowAt-none, rowAt-answer; place-here, place-other (of rows whose last one alone has a position);
 -- first-map (the first place by what the test means); walk-start, walk-next, walk-found, walk-done (a loop from start up to end that answers where t is true).
 use mathlib.Core.Path.{_≡_, refl, sym, _∙_, ap}
 use mathlib.Core.Logic.{_⊎_, inl, inr, ⊎-elim}
@@ -18,23 +17,23 @@ use Rattle.meaning.specs.Bounds.{FirstAt}
 use Rattle.theory.specs.Refusals.{done, off-done, Unplaced, first-parts}
 use Rattle.theory.specs.Tests.{within-yes, within-before, within-behind}
 
-pub firstWhere-ext : (N : ℕ) {t u : ℕ → Bool} → ((i : ℕ) → i < N → t i ≡ u i) → firstWhere N t ≡ firstWhere N u
+firstWhere-ext : (N : ℕ) {t u : ℕ → Bool} → ((i : ℕ) → i < N → t i ≡ u i) → firstWhere N t ≡ firstWhere N u
 unfolding firstWhere
 firstWhere-ext zero e = refl
 firstWhere-ext (suc N) {t} {u} e = rw (e 0 (omega arith), firstWhere-ext N {t = λ i. t (suc i)} {u = λ i. u (suc i)} (λ i l. e (suc i) (omega arith)))
 
-pub firstWhere-none : (N : ℕ) {t : ℕ → Bool} → ((i : ℕ) → i < N → t i ≡ false) → firstWhere N t ≡ N
+firstWhere-none : (N : ℕ) {t : ℕ → Bool} → ((i : ℕ) → i < N → t i ≡ false) → firstWhere N t ≡ N
 unfolding firstWhere
 firstWhere-none zero e = refl
 firstWhere-none (suc N) {t} e = rw (e 0 (omega arith)) (ap suc (firstWhere-none N (λ i l. e (suc i) (omega arith))))
 
-pub firstWhere-is : (N i : ℕ) {t : ℕ → Bool} → i < N → t i ≡ true → ((j : ℕ) → j < i → t j ≡ false) → firstWhere N t ≡ i
+firstWhere-is : (N i : ℕ) {t : ℕ → Bool} → i < N → t i ≡ true → ((j : ℕ) → j < i → t j ≡ false) → firstWhere N t ≡ i
 unfolding firstWhere
 firstWhere-is zero i l h e = absurd (omega arith)
 firstWhere-is (suc N) zero l h e = rw h
 firstWhere-is (suc N) (suc i) l h e = rw (e 0 (omega arith)) (ap suc (firstWhere-is N i (omega arith) h (λ j m. e (suc j) (omega arith))))
 
-pub firstWhere-before : (N i : ℕ) (t : ℕ → Bool) → i < firstWhere N t → t i ≡ false
+firstWhere-before : (N i : ℕ) (t : ℕ → Bool) → i < firstWhere N t → t i ≡ false
 unfolding firstWhere
 firstWhere-before zero i t l = absurd (omega arith)
 firstWhere-before (suc N) i t l = go i (t 0) refl (λ j. firstWhere-before N j (λ i. t (suc i))) l
@@ -44,7 +43,7 @@ firstWhere-before (suc N) i t l = go i (t 0) refl (λ j. firstWhere-before N j (
     go zero false h k l = h
     go (suc i) false h k l = k i (omega arith)
 
-pub firstWhere-at : (N : ℕ) (t : ℕ → Bool) → firstWhere N t < N → t (firstWhere N t) ≡ true
+firstWhere-at : (N : ℕ) (t : ℕ → Bool) → firstWhere N t < N → t (firstWhere N t) ≡ true
 unfolding firstWhere
 firstWhere-at zero t l = absurd (omega arith)
 firstWhere-at (suc N) t l = go (t 0) refl (firstWhere-at N (λ i. t (suc i))) l
@@ -56,7 +55,7 @@ firstWhere-at (suc N) t l = go (t 0) refl (firstWhere-at N (λ i. t (suc i))) l
 abbrev pub Clear : (ℕ → Bool) → ℕ → Type 0
 Clear t i = (j : ℕ) → j < i → t j ≡ false
 
-pub clear-next : {t : ℕ → Bool} {i : ℕ} → Clear t i → t i ≡ false → Clear t (i + 1)
+clear-next : {t : ℕ → Bool} {i : ℕ} → Clear t i → t i ≡ false → Clear t (i + 1)
 clear-next {t} {i} h e j l = go (decLt j i)
   where
     go : Dec (j < i) → t j ≡ false
@@ -68,7 +67,7 @@ module _ (n N : ℕ) where
   unfolding rowAt
   rowAt-ext e = rw (firstWhere-ext N e)
 
-  pub rowAt-on : (i : ℕ) {t : ℕ → Bool} → i < N → t i ≡ true → ((j : ℕ) → j < i → t j ≡ false) → (rows : List Row) → firstOf (rowAt n N t ∷ rows) ≡ record { number = n; position = i }
+  rowAt-on : (i : ℕ) {t : ℕ → Bool} → i < N → t i ≡ true → ((j : ℕ) → j < i → t j ≡ false) → (rows : List Row) → firstOf (rowAt n N t ∷ rows) ≡ record { number = n; position = i }
   unfolding rowAt firstOf
   rowAt-on i {t} l h e rows = rw (firstWhere-is N i {t = t} l h e, lt-ltb i N l)
 

@@ -1,5 +1,5 @@
 -- What one edit leaves, by its outcome. A stored smoothing is results that are those of its samples; it stays one, whatever the edits and their answers.
--- Laws: edit-done, edit-refused; edit-fresh (a stored smoothing stays one), edit-sized (and its samples within the bound). That no edit of such a one answers 12 is edit-never-12.
+-- Laws: edit-done, edit-refused; edit-fresh (a stored smoothing stays one), edit-sized (and its samples within the bound). That no edit of such a one answers 12 is edit-never-12 of AcceptedEdits.
 use mathlib.Core.Path.{_≡_, _∙_, ap}
 use mathlib.Core.List.{List}
 use Prim.Native.Nat.{ℕ}
