@@ -72,7 +72,7 @@ result-local {φ} C ss f g e {n} h k = convolved-local ss (pos n) (λ x l. rw (�
     go x {p} l q (yes t) = k p t (omega arith)
     go x {p} l q (no t) = at-past f p (omega arith) ∙ sym (at-past g p (omega arith))
 
--- ---- a sample set to another value moves exactly the results within reach
+-- ---- a sample set to another value moves no result outside its reach
 pub set-outside : {φ : IndexMap} → Nearness φ → (ss : List Stage) (f : List ℤ) (n p : ℕ) (v : ℤ) → n < length f → p < length f → reach ss < apart n p → result φ ss (set f p v) (pos n) ≡ result φ ss f (pos n)
 set-outside {φ} C ss f n p v hn hp l = rw (result-set φ ss f p v hp (pos n), weight-outside C ss n p hn l, *ℤ-zero (v -ℤ at f p)) (+ℤ-idr (result φ ss f (pos n)))
 
