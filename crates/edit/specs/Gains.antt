@@ -8,7 +8,7 @@
 --   ChangesIn xs L p d r a k left   the answer a, the count k and the results left of an edit by xs under the limit L
 --   Gainable xs N p d      room for every weight and every gain
 --   Writable               room for every result that is written
--- Laws: gain-weighable, gain-fits, sum-fits; length-gainedIn, gained-inside, gained-before, gained-behind;
+-- Laws: gain-fits, sum-fits; length-gainedIn, gained-inside, gained-before, gained-behind;
 -- by-refused, by-writable, by-done (the two ends of an edit by taps).
 use Prim.Native.Nat.{ℕ, _*_, _-_, _≤_, _<_}
 use mathlib.Core.Path.{_≡_, sym, _∙_, ap}
@@ -18,12 +18,11 @@ use native.Mathlib.Omega.{arith}
 use lib.Dec.{eqb}
 use borrow.Author.Tests.{ltb-false}
 use lib.ListN.{length}
-use lib.IntN.{ℤ, pos, natAbs, _+ℤ_, _*ℤ_}
-use lib.Signed.{_≤ℤ_}
+use lib.IntN.{ℤ, natAbs, _+ℤ_, _*ℤ_}
 use mir.Syntax.{w64}
 use mir.Val.{SFits}
 use Rattle.algebra.specs.Size.{Abs, abs-+, fits-abs}
-use Rattle.meaning.specs.Limits.{maxResult, maxLength}
+use Rattle.meaning.specs.Limits.{maxResult}
 use Rattle.meaning.specs.Extension.{at}
 use Rattle.meaning.specs.Smoothing.{listOf}
 use Rattle.meaning.specs.Refusals.{Answer, firstOf, rowAt, within, above, ifDone}
@@ -57,10 +56,8 @@ abbrev pub endIn : List ℤ → ℕ → ℕ → ℕ
 endIn xs N p = high N p (length xs - 1)
 
 pub record Gainable (xs : List ℤ) (N p : ℕ) (d : ℤ) : Type 0 where
-  pub few : N ≤ maxLength
   pub sample : p < N
-  pub nonneg : (m : ℕ) → pos 0 ≤ℤ at xs m
-  pub weights : (n : ℕ) → n < N → Abs (weightIn xs N n p) maxResult
+  pub weights : (n : ℕ) → n < N → Weighable xs N n p
   pub gains : (n : ℕ) → n < N → Abs (gainIn xs N p d n) (2 * maxResult)
 
 pub record Writable (xs : List ℤ) (p : ℕ) (d : ℤ) (r : List ℤ) (start end : ℕ) : Type 0 where
@@ -75,13 +72,9 @@ pub record ChangesIn (xs : List ℤ) (L p : ℕ) (d : ℤ) (r : List ℤ) (a : A
   pub results : left ≡ ifDone a (gainedIn xs p d r (startIn xs p) (endIn xs (length r) p)) r
 
 -- ---- one gain
-module _ {xs : List ℤ} {N p : ℕ} {d : ℤ} (h : Gainable xs N p d) {n : ℕ} (l : n < N) where
-  pub gain-weighable : Weighable xs N n p
-  gain-weighable = record { few = h .few; result = l; sample = h .sample; nonneg = h .nonneg; size = h .weights n l }
-
-  pub gain-fits : SFits w64 (d *ℤ weightIn xs N n p)
-  unfolding gainIn
-  gain-fits = fits-abs (h .gains n l) (omega arith)
+pub gain-fits : {xs : List ℤ} {N p : ℕ} {d : ℤ} → Gainable xs N p d → {n : ℕ} → n < N → SFits w64 (d *ℤ weightIn xs N n p)
+unfolding gainIn
+gain-fits h {n} l = fits-abs (h .gains n l) (omega arith)
 
 pub sum-fits : (L : ℕ) (old g : ℤ) → L ≤ maxResult → natAbs old ≤ L → natAbs g ≤ 2 * maxResult → SFits w64 (old +ℤ g)
 sum-fits L old g l h k = fits-abs (abs-+ {a = old} {b = g} (record { bound = h }) (record { bound = k })) (omega arith)

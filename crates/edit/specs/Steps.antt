@@ -30,8 +30,8 @@ use Rattle.theory.specs.Places.{picked, rowAt-ext}
 use Rattle.theory.specs.Edits.{resultRow, gained-near, changed-is}
 use Rattle.theory.specs.Accepted.{inner-allowed, length-accepted}
 use Rattle.plan.specs.Span.{low, high}
-use Rattle.taps.specs.Taps.{Held, held-nonneg}
-use Rattle.taps.specs.Weigh.{weight-held}
+use Rattle.taps.specs.Taps.{Held}
+use Rattle.taps.specs.Weigh.{weight-held, weighable}
 use Rattle.edit.specs.Contract.{Gives}
 use Rattle.edit.specs.Rows.{frontRows, rows-parts, front-numbered, front-allowed}
 use Rattle.edit.specs.Gains.{gainIn, movedIn, gainedIn, refusedIn, Gainable, ChangesIn}
@@ -65,10 +65,8 @@ module _ (ss : List Stage) (M p : ℕ) (d : ℤ) (r : List ℤ) (ok : Editable s
 
   pub gainable : Gainable xs (length r) p d
   gainable = record {
-    few = ok .common .count .1;
     sample = ok .position;
-    nonneg = held-nonneg held;
-    weights = λ n l. rw (weight-held ss xs held (length r) n p l (ok .position)) (abs-weaken (weight-size fold ss (length r) (pos n) p) (length-accepted (ok .common) .divides));
+    weights = λ n l. weighable held (ok .common .count .1) l (ok .position) (length-accepted (ok .common) .divides);
     gains = λ n l. rw (gain-is l) (abs-weaken (abs-* {a = d} (record { bound = ok .change }) (weight-size fold ss (length r) (pos n) p)) (omega (arith, ok .common .product)));
   }
 

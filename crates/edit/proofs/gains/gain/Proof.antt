@@ -5,12 +5,12 @@ use mir.Val.{toZ, ofZ}
 use mir.Facts.{toZ-ofZ}
 use borrow.Author.Needs.{sfits-of}
 use Rattle.taps.specs.Weigh.{weightIn}
-use Rattle.edit.specs.Gains.{gainIn, gain-weighable, gain-fits}
+use Rattle.edit.specs.Gains.{gainIn, gain-fits}
 use Rattle.edit.proofs.gains.gain.Statement.{statement}
 use Rattle.edit.proofs.gains.gain.Tie as tie
 
 weight-requires : tie.Need-weight-requires
-weight-requires c κs = gain-weighable (c .pre .1) (c .pre .0)
+weight-requires c κs = c .pre .1 .weights (c .args .n) (c .pre .0)
 
 weight-is : (c : tie.After-weight) → toZ w64 (ofZ w64 (c .weight .result)) ≡ weightIn (c .before .args .taps .now) (c .before .args .len) (c .before .args .n) (c .before .args .p)
 weight-is c = toZ-ofZ (sfits-of (c .weight .ok)) ∙ c .weight .ensures
