@@ -7,7 +7,6 @@ use Prim.Native.Nat.{ℕ, _+_, _*_, _-_, _≤_, _<_}
 use mathlib.Core.Path.{_≡_, refl, sym, _∙_, ap}
 use mathlib.Core.Bool.{_&&_, _||_}
 use mathlib.Core.List.{List, [], _∷_}
-use native.Mathlib.Decide.{decLe}
 use native.Mathlib.Omega.{arith}
 use lib.ListN.{length, set}
 use lib.IntN.{ℤ, pos, natAbs, _+ℤ_, _-ℤ_, _*ℤ_}
@@ -16,14 +15,15 @@ use mir.Val.{SFits}
 use Rattle.algebra.specs.Size.{Abs, abs-weaken, abs--, abs-*, fits-abs}
 use Rattle.meaning.specs.Extension.{at, fold}
 use Rattle.meaning.specs.Kernel.{Stage, reach, divisor}
-use Rattle.meaning.specs.Smoothing.{weight, near, apart}
+use Rattle.meaning.specs.Smoothing.{weight, near}
 use Rattle.meaning.specs.Refusals.{Answer, firstOf, rowAt, above, ifDone, zeros}
 use Rattle.meaning.specs.Calls.{gained, changed, editRows, editSeries}
 use Rattle.meaning.specs.Bounds.{AllowedLength}
 use Rattle.theory.specs.HalfSample.{half-sample}
 use Rattle.theory.specs.Lists.{listOf-ext}
 use Rattle.theory.specs.Sizes.{weight-size}
-use Rattle.theory.specs.Local.{near-no, near-within}
+use Rattle.theory.specs.Local.{near-true, near-within}
+use Rattle.theory.specs.Tests.{and-when}
 use Rattle.theory.specs.Refusals.{refused-first, done-rest, ifDone-done, ifDone-refused}
 use Rattle.theory.specs.AcceptedEdits.{Begun}
 use Rattle.theory.specs.Places.{picked, rowAt-ext}
@@ -36,20 +36,17 @@ use Rattle.edit.specs.Contract.{Gives}
 use Rattle.edit.specs.Rows.{frontRows, rows-parts, front-numbered, front-allowed}
 use Rattle.edit.specs.Gains.{gainIn, movedIn, gainedIn, refusedIn, Gainable, ChangesIn}
 
-pub record Editable (ss : List Stage) (M p : ℕ) (d : ℤ) (r : List ℤ) : Type 0 where
-  pub common : AllowedLength ss M (length r)
-  pub position : p < length r
-  pub change : natAbs d ≤ 2 * M
-
 pub record Changes (ss : List Stage) (L p : ℕ) (d : ℤ) (r : List ℤ) (a : Answer) (k : ℕ) (left : List ℤ) : Type 0 where
   pub answer : a ≡ firstOf (resultRow ss L p r (gained fold ss p d r) ∷ [])
   pub count : k ≡ ifDone a (changed r (gained fold ss p d r)) 0
   pub results : left ≡ ifDone a (gained fold ss p d r) r
 
-module _ (ss : List Stage) (M p : ℕ) (d : ℤ) (r : List ℤ) (ok : Editable ss M p d r) (xs : List ℤ) (held : Held ss xs) where
-  abbrev N : ℕ
-  N = length r
+pub record Editable (ss : List Stage) (M p : ℕ) (d : ℤ) (r : List ℤ) : Type 0 where
+  pub common : AllowedLength ss M (length r)
+  pub position : p < length r
+  pub change : natAbs d ≤ 2 * M
 
+module _ (ss : List Stage) (M p : ℕ) (d : ℤ) (r : List ℤ) (ok : Editable ss M p d r) (xs : List ℤ) (held : Held ss xs) where
   abbrev L : ℕ
   L = M * divisor ss
 
@@ -80,11 +77,7 @@ module _ (ss : List Stage) (M p : ℕ) (d : ℤ) (r : List ℤ) (ok : Editable s
 
   refused-is : (n : ℕ) → n < length r → picked start end (refusedIn L xs p d r) n ≡ (near ss n p && (above L (at r n) || above L (at (gained fold ss p d r) n)))
   unfolding refusedIn
-  refused-is n l = go (decLe (apart n p) (reach ss))
-    where
-      go : Dec (apart n p ≤ reach ss) → picked start end (refusedIn L xs p d r) n ≡ (near ss n p && (above L (at r n) || above L (at (gained fold ss p d r) n)))
-      go (yes k) = rw (← near-within ss p l, moved-is l, gained-near fold ss p d r l k)
-      go (no k) = rw (← near-within ss p l, near-no ss n p (omega arith))
+  refused-is n l = rw (← near-within ss p l) (and-when (near ss n p) (λ t. rw (moved-is l, gained-near fold ss p d r l (near-true ss n p t))))
 
   row-is : rowAt 12 (length r) (picked (low p (reach ss)) (high (length r) p (reach ss)) (refusedIn (M * divisor ss) xs p d r)) ≡ resultRow ss (M * divisor ss) p r (gained fold ss p d r)
   row-is = rowAt-ext 12 (length r) refused-is

@@ -63,6 +63,7 @@ fn summed(taps: &[i64], samples: &[i32], n: usize, start: usize, end: usize) -> 
     s
 }
 
+// The sum with one share more.
 fn share_more(s: i64, weight: i64, sample: i64) -> i64
     requires { ⌜ SFits w64 (weight *ℤ sample) ⌝ }
     requires { ⌜ SFits w64 (s +ℤ weight *ℤ sample) ⌝ }

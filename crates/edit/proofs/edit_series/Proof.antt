@@ -1,13 +1,13 @@
 -- Refused, nothing was touched; done, the sample is the new value, the results have their gains and work was cleared.
 use Prim.Native.Nat.{_<_}
 use mathlib.Core.Path.{_≡_, _∙_}
-use native.Mathlib.Omega.{arith}
 use borrow.Author.Needs.{needs, sfits-of}
 use lib.ListN.{length}
-use lib.IntN.{ℤ, _-ℤ_}
+use lib.IntN.{_-ℤ_}
 use mir.Syntax.{w32, w64}
-use mir.Val.{SFits, toZ, ofZ}
+use mir.Val.{toZ, ofZ}
 use mir.Facts.{toZ-ofZ}
+use Rattle.algebra.specs.Size.{fits-wider}
 use Rattle.meaning.specs.Extension.{at}
 use Rattle.meaning.specs.Refusals.{firstOf}
 use Rattle.plan.specs.Structs.{stagesOf, answerOf}
@@ -46,14 +46,11 @@ mul-change c = let l = inside c in search needs
 slice-copy-out-change : tie.Need-slice-copy-out-change
 slice-copy-out-change c = inside c
 
-wider : {z : ℤ} → SFits w32 z → SFits w64 z
-wider f = omega arith
-
 old-read : (c : tie.After-change) → let a = start (c .before .before .before) .args in toZ w32 (ofZ w32 (at (a .samples .now) (a .position))) ≡ at (a .samples .now) (a .position)
 old-read c = toZ-ofZ (sfits-of (c .change .given))
 
 cast-change : tie.Need-cast-change
-cast-change c = rw (old-read c) (wider (sfits-of (c .change .given)))
+cast-change c = rw (old-read c) (fits-wider (sfits-of (c .change .given)))
 
 sub-change : tie.Need-sub-change
 sub-change c =

@@ -6,15 +6,13 @@ use native.Mathlib.Omega.{arith}
 use borrow.Author.Tests.{ltb-true}
 use lib.IntN.{ℤ, pos, negsuc}
 use lib.Signed.{mag, ltZ}
-use mir.Syntax.{w32, w64}
-use mir.Val.{SFits, ofZ}
+use mir.Syntax.{w32}
+use mir.Val.{ofZ}
 use mir.Facts.{toZ-ofZ}
 use borrow.Author.Needs.{needs}
+use Rattle.algebra.specs.Size.{fits-wider}
 use Rattle.encoding.proofs.inner.unsigned.Statement.{statement}
 use Rattle.encoding.proofs.inner.unsigned.Tie as tie
-
-wider : {z : ℤ} → SFits w32 z → SFits w64 z
-wider f = record { sfits = omega (arith, f .sfits) }
 
 low : (z : ℤ) {n : ℕ} → ltZ z (pos 0) ≡ true → n ≡ mag z → 4294967295 - n ≡ ofZ w32 z
 low (pos m) t e = let no : ⊥ = omega (arith, ltb-true m 0 t) in absurd no
@@ -25,13 +23,13 @@ high (pos m) t e = e
 high (negsuc m) t e = absurd (true≢false t)
 
 cast-magnitude : tie.Need-cast-magnitude
-cast-magnitude c = rw (toZ-ofZ (c .fits .x)) (wider (c .fits .x))
+cast-magnitude c = rw (toZ-ofZ (c .fits .x)) (fits-wider (c .fits .x))
 
 magnitude-requires : tie.Need-magnitude-requires
 magnitude-requires c κs = search needs
 
 told : (c : tie.After-magnitude) → c .magnitude .result ≡ mag (c .before .args .x)
-told c = c .magnitude .ensures .0 ∙ rw (toZ-ofZ (c .before .fits .x), toZ-ofZ (wider (c .before .fits .x))) refl
+told c = c .magnitude .ensures .0 ∙ rw (toZ-ofZ (c .before .fits .x), toZ-ofZ (fits-wider (c .before .fits .x))) refl
 
 cast-n : tie.Need-cast-n
 cast-n c = record { fits = omega (arith, told c, c .before .fits .x .sfits) }

@@ -7,9 +7,10 @@ use native.Mathlib.Omega.{arith}
 use borrow.Author.Needs.{needs, sfits-of}
 use borrow.Author.Tests.{lt-ltb, le-ltb}
 use lib.IntN.{ℤ, natAbs}
-use mir.Syntax.{w32, w64}
-use mir.Val.{SFits, toZ, ofZ}
+use mir.Syntax.{w32}
+use mir.Val.{toZ, ofZ}
 use mir.Facts.{toZ-ofZ}
+use Rattle.algebra.specs.Size.{fits-wider}
 use Rattle.meaning.specs.Extension.{at}
 use Rattle.meaning.specs.Refusals.{above}
 use Rattle.theory.specs.Places.{Clear, picked, walk-start, walk-next, walk-found, walk-done}
@@ -34,14 +35,11 @@ mul-size c = search needs
 shared-slice-copy-out-size : tie.Need-shared-slice-copy-out-size Inv-loop μ-loop
 shared-slice-copy-out-size c = omega arith
 
-wider : {z : ℤ} → SFits w32 z → SFits w64 z
-wider f = omega arith
-
 sample-read : (c : tie.After-size-arg Inv-loop μ-loop) → toZ w32 (ofZ w32 (at (c .before .before .before .args .samples .now) (c .before .before .loop .i))) ≡ at (c .before .before .before .args .samples .now) (c .before .before .loop .i)
 sample-read c = toZ-ofZ (sfits-of (c .size-arg .given))
 
 cast-size : tie.Need-cast-size Inv-loop μ-loop
-cast-size c = rw (sample-read c) (wider (sfits-of (c .size-arg .given)))
+cast-size c = rw (sample-read c) (fits-wider (sfits-of (c .size-arg .given)))
 
 size-requires : tie.Need-size-requires Inv-loop μ-loop
 size-requires c κs = tt
