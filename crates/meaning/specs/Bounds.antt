@@ -5,6 +5,8 @@
 --   AcceptedPlan ss           a plan that calls accept under some bound
 --   AllowedLength ss M N      a plan, a bound M and a length N
 --   AllowedSeries ss M f nr nw   those of smoothing the samples f, with nr results and nw cells of work
+--   AllowedSides hs vs M W H   plans across and down, a bound M, a width W and a height H
+--   AllowedPicture hs vs M W H f nr nw   those of smoothing the picture f, with nr results and nw cells of work
 --   AllowedEdit φ ss M p v f r nw   of an edit that sets sample p of f to v, with the stored results r and nw cells of work
 --   AllowedPoint ss M n f nw  of the point at n of the samples f, with nw cells of work
 --   FirstAt N P i             i is the first of 0 .. N - 1 with the property P
@@ -15,7 +17,7 @@ use mathlib.Core.Logic.{_⊎_}
 use mathlib.Core.List.{List, [], _∷_}
 use lib.ListN.{length}
 use lib.IntN.{ℤ, pos, natAbs, _+ℤ_, _-ℤ_, _*ℤ_}
-use Rattle.meaning.specs.Limits.{least, maxPasses, maxRadius, maxInner, maxBound, maxResult, maxLength}
+use Rattle.meaning.specs.Limits.{least, maxPasses, maxRadius, maxInner, maxBound, maxResult, maxLength, maxSide}
 use Rattle.meaning.specs.Extension.{at, IndexMap}
 use Rattle.meaning.specs.Kernel.{Stage, reach, divisor}
 use Rattle.meaning.specs.Smoothing.{weight, apart}
@@ -48,6 +50,22 @@ pub record AllowedSeries (ss : List Stage) (M : ℕ) (f : List ℤ) (nr nw : ℕ
   pub common : AllowedLength ss M (length f)
   pub results : nr ≡ length f
   pub work : nw ≡ length f
+  pub samples : (i : ℕ) → i < length f → natAbs (at f i) ≤ M
+
+pub record AllowedSides (hs vs : List Stage) (M W H : ℕ) : Type 0 where
+  pub across : AllowedPlan hs
+  pub down : AllowedPlan vs
+  pub bound : (least ≤ M) × (M ≤ maxBound)
+  pub product : M * (divisor hs * divisor vs) ≤ maxResult
+  pub width : (least ≤ W) × (W ≤ maxSide)
+  pub height : (least ≤ H) × (H ≤ maxSide)
+  pub cells : W * H ≤ maxLength
+
+pub record AllowedPicture (hs vs : List Stage) (M W H : ℕ) (f : List ℤ) (nr nw : ℕ) : Type 0 where
+  pub common : AllowedSides hs vs M W H
+  pub count : length f ≡ W * H
+  pub results : nr ≡ W * H
+  pub work : nw ≡ W * H
   pub samples : (i : ℕ) → i < length f → natAbs (at f i) ≤ M
 
 -- the change is the new value less the old

@@ -1,33 +1,33 @@
 -- The rows of the table of numbers say the bounds: a call is done exactly where they hold.
 -- Laws: plan-rows (rows 1 to 4 of K equal stages, by the plan's numbers); plan-allowed, allowed-plan (rows 1 to 4), stage-allowed, allowed-stages (of K equal stages);
--- length-allowed, allowed-length (rows 1 to 8 of a series), length-accepted; series-allowed, allowed-series (smoothing one), series-position, series-no-position;
+-- plans-lower, plans-allowed (rows 1 to 4 of two plans);
+-- length-allowed, allowed-length (rows 1 to 8 of a series), length-accepted; sides-allowed, allowed-sides (rows 1 to 8 of a picture);
 -- inner-allowed, divisor-allowed; accepted-divisor, accepted-reach, divisor-accepted, no-divisor, no-reach (a plan's own numbers).
 use mathlib.Core.Path.{_≡_, refl, sym, _∙_, ap}
-use mathlib.Core.Bool.{Bool, true, false, _||_}
+use mathlib.Core.Bool.{Bool, false, _||_}
 use mathlib.Core.List.{List, [], _∷_}
-use Prim.Native.Nat.{ℕ, zero, suc, _<_}
+use Prim.Native.Nat.{ℕ, zero, suc, _*_, _<_}
 use native.Mathlib.Nat.{mul-le-mul-right}
 use native.Mathlib.Decide.{ℕ-discrete}
 use native.Mathlib.Omega.{arith}
 use lib.Dec.{leb, ltb}
 use lib.ListN.{length, replicate, length-replicate}
-use lib.IntN.{ℤ, natAbs}
-use borrow.Author.Tests.{ltb-true, ltb-false, leb-false, lt-ltb, le-ltb, lt-leb}
-use Rattle.meaning.specs.Limits.{least, maxPasses, maxRadius, maxInner}
-use Rattle.meaning.specs.Extension.{at}
+use borrow.Author.Tests.{ltb-false, leb-false, le-ltb, lt-leb}
+use Rattle.meaning.specs.Limits.{least, maxPasses, maxRadius, maxInner, maxLength, maxSide}
 use Rattle.meaning.specs.Kernel.{Stage, plan, reach, divisor}
-use Rattle.meaning.specs.Refusals.{Answer, Row, _when_, firstOf, rowAt, some, outside, differs, seriesOf, planRows, sizeRows, commonRows, ownRows, planDivisor, planReach}
-use Rattle.meaning.specs.Calls.{sampleRow, smoothRows}
-use Rattle.meaning.specs.Bounds.{AllowedStage, AllowedStages, AllowedPlan, AcceptedPlan, AllowedLength, AllowedSeries, FirstAt}
+use Rattle.meaning.specs.Refusals.{Answer, _when_, firstOf, some, outside, seriesOf, pictureOf, planRows, sizeRows, commonRows, ownRows, planDivisor, planReach}
+use Rattle.meaning.specs.Bounds.{AllowedStage, AllowedStages, AllowedPlan, AcceptedPlan, AllowedLength, AllowedSides}
 use Rattle.theory.specs.Stages.{PositiveInner, none, _and_, divisor-positive}
-use Rattle.theory.specs.Refusals.{done, Off, Numbered, Unplaced, done-off, off-done, off-append, append-off, ifDone-done, ifDone-refused}
-use Rattle.theory.specs.Places.{rowAt-off, rowAt-none, place-here, place-other, first-map}
-use Rattle.theory.specs.Tests.{some-one, some-replicate, or-no, no-or, outside-no, no-outside, differs-no, no-differs}
+use Rattle.theory.specs.Refusals.{Off, Numbered, Lower, done-off, off-done, off-append, append-off, off-more, more-off, two-lower, ifDone-done, ifDone-refused}
+use Rattle.theory.specs.Tests.{some-one, some-replicate, or-no, no-or, outside-no, no-outside}
 
 number-of : {a b : Answer} → a ≡ b → a .number ≡ b .number
 number-of e = ap (λ (x : Answer). x .number) e
 
 -- ---- rows 1 to 4
+abbrev badPasses : List Stage → Bool
+badPasses ss = outside least maxPasses (length ss)
+
 abbrev badRadius : Stage → Bool
 badRadius s = ltb maxRadius (s .radius)
 
@@ -57,7 +57,7 @@ to-tests (s ∷ ss) ok =
 pub plan-allowed : (ss : List Stage) → Off (planRows (ss ∷ [])) → AllowedPlan ss
 unfolding planRows
 plan-allowed ss h = record {
-  passes = outside-no _ _ _ (sym (some-one (λ (ss : List Stage). outside least maxPasses (length ss)) ss) ∙ h .0);
+  passes = outside-no _ _ _ (sym (some-one badPasses ss) ∙ h .0);
   stages = from-tests ss (sym (some-one (some badRadius) ss) ∙ h .1 .0) (sym (some-one (some badInner) ss) ∙ h .1 .1 .0) (sym (some-one (some badEdge) ss) ∙ h .1 .1 .1 .0);
 }
 
@@ -65,7 +65,7 @@ pub allowed-plan : (ss : List Stage) → AllowedPlan ss → Off (planRows (ss �
 unfolding planRows
 allowed-plan ss ok =
     let (h, k, l) = to-tests ss (ok .stages) in (
-      some-one (λ (ss : List Stage). outside least maxPasses (length ss)) ss ∙ no-outside (ok .passes .0) (ok .passes .1),
+      some-one badPasses ss ∙ no-outside (ok .passes .0) (ok .passes .1),
       (some-one (some badRadius) ss ∙ h, (some-one (some badInner) ss ∙ k, (some-one (some badEdge) ss ∙ l, tt))),
     )
 
@@ -87,12 +87,28 @@ plan-rows r b a zero = refl
 plan-rows r b a (suc K) =
     let s : Stage = record { radius = r; inner = b; edge = a } in
     rw (
-      some-one (λ (ss : List Stage). outside least maxPasses (length ss)) (replicate (suc K) s),
+      some-one badPasses (replicate (suc K) s),
       length-replicate (suc K) s,
       some-stage badRadius K s,
       some-stage badInner K s,
       some-stage badEdge K s,
     )
+
+-- ---- two plans
+abbrev planTests : List (ℕ × (List Stage → Bool))
+planTests = (1, badPasses) ∷ (2, some badRadius) ∷ (3, some badInner) ∷ (4, some badEdge) ∷ []
+
+pub plans-lower : (hs vs : List Stage) {a b : Answer} → a ≡ firstOf (planRows (hs ∷ [])) → b ≡ firstOf (planRows (vs ∷ [])) → Lower a b (firstOf (planRows (hs ∷ vs ∷ [])))
+unfolding planRows
+plans-lower hs vs e f = rw (e, f) (two-lower 0 planTests hs vs (λ ps. tt))
+
+pub plans-allowed : (hs vs : List Stage) → Off (planRows (hs ∷ vs ∷ [])) → AllowedPlan hs × AllowedPlan vs
+unfolding planRows
+plans-allowed hs vs h = let (a, b) = off-more planTests hs (vs ∷ []) h in (plan-allowed hs a, plan-allowed vs b)
+
+allowed-plans : (hs vs : List Stage) → AllowedPlan hs → AllowedPlan vs → Off (planRows (hs ∷ vs ∷ []))
+unfolding planRows
+allowed-plans hs vs h k = more-off planTests hs (vs ∷ []) (allowed-plan hs h) (allowed-plan vs k)
 
 -- ---- rows 1 to 8 of a series
 module _ (ss : List Stage) (M N : ℕ) {wrong : Bool} where
@@ -110,53 +126,32 @@ module _ (ss : List Stage) (M N : ℕ) {wrong : Bool} where
 pub length-accepted : {ss : List Stage} {M N : ℕ} → AllowedLength ss M N → AcceptedPlan ss
 length-accepted {ss} ok = record { plan = ok .plan; divides = omega (arith, ok .product, mul-le-mul-right (divisor ss) (ok .bound .0)) }
 
--- ---- smoothing a series
-module _ (ss : List Stage) (M : ℕ) (f : List ℤ) (nr nw : ℕ) where
-  abbrev wrong : Bool
-  wrong = differs (length f) (length f) || differs nr (length f) || differs nw (length f)
+-- ---- rows 1 to 8 of a picture
+module _ (hs vs : List Stage) (M W H : ℕ) {wrong : Bool} where
+  pub sides-allowed : Off (commonRows (pictureOf hs vs W H) M wrong) → AllowedSides hs vs M W H × (wrong ≡ false)
+  unfolding sizeRows
+  sides-allowed h =
+      let (p, s) = append-off (planRows (hs ∷ vs ∷ [])) _ h in
+      let (a, d) = plans-allowed hs vs p in
+      let (sides, few) = or-no (outside least maxSide W || outside least maxSide H) (ltb maxLength (W * H)) (s .1 .1 .0) in
+      let (w, t) = or-no (outside least maxSide W) (outside least maxSide H) sides in (
+        record {
+          across = a;
+          down = d;
+          bound = outside-no _ _ _ (s .0);
+          product = ltb-false _ _ (s .1 .0);
+          width = outside-no _ _ _ w;
+          height = outside-no _ _ _ t;
+          cells = ltb-false _ _ few;
+        },
+        s .1 .1 .1 .0,
+      )
 
-  abbrev common : List Row
-  common = commonRows (seriesOf ss (length f)) M wrong
-
-  abbrev rows : List Row
-  rows = smoothRows (seriesOf ss (length f)) M f nr nw
-
-  rows-numbered : Numbered rows
-  unfolding smoothRows planRows sizeRows rowAt
-  rows-numbered = tt
-
-  pub series-allowed : firstOf rows .number ≡ 0 → AllowedSeries ss M f nr nw
-  unfolding smoothRows
-  series-allowed e =
-      let (h, s) = append-off common (sampleRow M f (λ i. true) ∷ []) (done-off rows rows-numbered e) in
-      let (ok, w) = length-allowed ss M (length f) h in
-      let both = or-no (differs (length f) (length f) || differs nr (length f)) (differs nw (length f)) w in
-      record {
-        common = ok;
-        results = differs-no _ _ (or-no (differs (length f) (length f)) (differs nr (length f)) (both .0) .1);
-        work = differs-no _ _ (both .1);
-        samples = λ i l. ltb-false _ _ (rowAt-none 11 (length f) _ (s .0) i l);
-      }
-
-  pub allowed-series : AllowedSeries ss M f nr nw → firstOf rows ≡ done
-  unfolding smoothRows
-  allowed-series ok =
-      let lengths = no-or (no-or (no-differs {n = length f} refl) (no-differs (ok .results))) (no-differs (ok .work)) in
-      let samples : Off (sampleRow M f (λ i. true) ∷ []) = (rowAt-off 11 (length f) (λ i l. le-ltb _ _ (ok .samples i l)), tt) in
-      off-done rows (off-append common _ (allowed-length ss M (length f) (ok .common) lengths) samples)
-
-  common-unplaced : Unplaced 11 common
-  unfolding planRows sizeRows
-  common-unplaced = tt
-
-  module _ {x : Answer} (e : x ≡ firstOf rows) where
-    pub series-position : x .number ≡ 11 → FirstAt (length f) (λ i. M < natAbs (at f i)) (x .position)
-    unfolding smoothRows
-    series-position h = first-map (λ i l k. ltb-true _ _ k) (λ i l k. lt-ltb _ _ k) (place-here 11 (length f) common common-unplaced _ (omega arith) e h)
-
-    pub series-no-position : (x .number ≡ 11 → ⊥) → x .position ≡ 0
-    unfolding smoothRows
-    series-no-position h = place-other 11 (length f) common common-unplaced _ (omega arith) e h
+  pub allowed-sides : AllowedSides hs vs M W H → wrong ≡ false → Off (commonRows (pictureOf hs vs W H) M wrong)
+  unfolding sizeRows
+  allowed-sides ok e =
+      let sides = no-or (no-or (no-outside (ok .width .0) (ok .width .1)) (no-outside (ok .height .0) (ok .height .1))) (le-ltb _ _ (ok .cells)) in
+      off-append (planRows (hs ∷ vs ∷ [])) _ (allowed-plans hs vs (ok .across) (ok .down)) (no-outside (ok .bound .0) (ok .bound .1), (le-ltb _ _ (ok .product), (sides, (e, tt))))
 
 -- ---- a plan's own numbers
 pub inner-allowed : (ss : List Stage) → AllowedStages ss → PositiveInner ss

@@ -1,21 +1,30 @@
 -- A loop that writes a list towards a list t of the same length: from the front, or from some place on.
 --   Filled t r d n   d is r with the elements of t up to n
--- Laws: fill-next (one element more), fill-done (all of them);
+-- Laws: fill-at (what is written), fill-next (one element more), fill-part (k of them more), fill-done (all of them);
 -- filled-start, filled-next, filled-done (where t differs from r only in the places that are written).
 use Prim.Native.Nat.{ℕ, _+_, _≤_, _<_}
 use mathlib.Core.Path.{_≡_, refl, sym, _∙_, ap}
-use mathlib.Core.List.{List}
+use mathlib.Core.List.{List, _++_}
 use native.Mathlib.Decide.{ℕ-discrete, decLt}
 use native.Mathlib.Numerals.{add-one}
 use native.Mathlib.Omega.{arith}
-use lib.ListN.{length, take, set, length-set}
-use lib.Seq.{take-suc, take-suc-set, take-all, ext-getD, getD-set-same, getD-set-other}
+use lib.ListN.{length, take, drop, set, length-set}
+use lib.Seq.{getD-take, take-suc, take-suc-set, take-at, take-add, take-all, length-take-le, take-append-add, ext-getD, getD-set-same, getD-set-other}
 use lib.IntN.{ℤ, pos}
 use Rattle.meaning.specs.Extension.{at}
 
 module _ (t d : List ℤ) (n : ℕ) (e : take n d ≡ take n t) where
+  pub fill-at : (i : ℕ) → i < n → at d i ≡ at t i
+  fill-at i l = sym (getD-take n d i (pos 0) l) ∙ ap (λ (f : List ℤ). at f i) e ∙ getD-take n t i (pos 0) l
+
   pub fill-next : (v : ℤ) → n < length d → n < length t → v ≡ at t n → take (n + 1) (set d n v) ≡ take (n + 1) t
   fill-next v l m h = rw (add-one n, take-suc-set d n v l, take-suc t n (pos 0) m, e, h)
+
+  pub fill-part : (part rest : List ℤ) {k : ℕ} → n ≤ length d → length part ≡ k → part ≡ take k (drop n t) → take (n + k) (take n d ++ (part ++ rest)) ≡ take (n + k) t
+  fill-part part rest {k} l m h =
+      ap (λ i. take (i + k) (take n d ++ (part ++ rest))) (sym (length-take-le n d l))
+      ∙ take-append-add (take n d) (part ++ rest) k
+      ∙ rw (take-at part rest k m, e, h, take-add n k t)
 
   pub fill-done : length d ≤ n → length t ≤ n → d ≡ t
   fill-done l m = sym (take-all n d l) ∙ e ∙ take-all n t m

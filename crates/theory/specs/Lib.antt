@@ -27,7 +27,8 @@
 --   Records      the job record: what is written is read, what is read as done was written
 --   Accepted     a call is done exactly where the bounds hold
 --   Placed       rows 1 to 9 of a call with a place, and what follows them
---   AcceptedEdits, AcceptedPoints   an edit and a point are done exactly where their bounds hold
+--   AcceptedSmoothings   a smoothing, of a series or a picture, is done exactly where its bounds hold
+--   AcceptedEdits, AcceptedPoints   so are an edit and a point
 --   Stored       what an edit leaves of a stored smoothing
 --   Farthest     how far an accepted plan reaches at most
 --   Programs     what the program prints
@@ -59,6 +60,7 @@ pub mod Values
 pub mod Encoding
 pub mod Records
 pub mod Accepted
+pub mod AcceptedSmoothings
 pub mod Placed
 pub mod AcceptedEdits
 pub mod AcceptedPoints

@@ -1,27 +1,29 @@
 -- Pictures: smoothing across and down, in either order, gives `picture`; and how large it grows.
 --   Keeps op   op leaves a series as long as it is
 -- Laws: length-grid, cell-grid, grid-ext, cells-ext (a picture is known by its cells), grid-cell;
--- length-row, length-column, at-row, at-column; length-across, length-down, length-picture, cell-across, cell-down, cell-picture;
--- across-ext, down-ext, across-across, down-down (one after another), row-across, column-down (what was done to each row is found in each row);
--- across-none, across-cons, down-none, down-cons (a stage in front is one pass more over every row);
+-- length-row, length-column, at-row, at-column, row-inside (a row ends within the picture), row-part (a row is a stretch of the picture);
+-- ext-column, sized-column (a column without ends);
+-- length-across, length-down, length-picture, cell-down, cell-picture;
+-- down-ext, down-down (one after another), row-across, column-down (what was done to each row is found in each row);
+-- down-none, down-cons (a stage in front is one pass more over every column), cell-passed (a cell after one pass down);
 -- rows-first, columns-first, either-first; across-size, down-size, picture-size.
 use mathlib.Core.Path.{_≡_, refl, sym, _∙_, ap, ap₂}
 use mathlib.Core.List.{List, [], _∷_, _++_}
-use Prim.Native.Nat.{ℕ, zero, suc, _+_, _*_, _/_, _%_, _<_}
-use native.Mathlib.Nat.{mul-zero, div-add-mod', mod-lt, div-lt-iff-lt-mul, mul-assoc, mul-comm}
+use Prim.Native.Nat.{ℕ, zero, suc, _+_, _*_, _/_, _%_, _≤_, _<_}
+use native.Mathlib.Nat.{mul-zero, div-add-mod', mod-lt, div-lt-iff-lt-mul, mul-assoc, mul-comm, mul-le-mul-right}
 use native.Mathlib.Omega.{arith}
-use lib.ListN.{length, length-append, List·getD-append}
-use lib.Seq.{getD-append-add, ext-getD}
+use lib.ListN.{length, take, drop, length-append, length-drop, List·getD-append}
+use lib.Seq.{length-take-le, getD-append-add, getD-take, getD-drop, ext-getD}
 use lib.IntN.{ℤ, pos}
 use Rattle.algebra.specs.Size.{Abs}
 use Rattle.meaning.specs.Extension.{at, IndexMap, ext}
-use Rattle.meaning.specs.Kernel.{Stage, divisor}
+use Rattle.meaning.specs.Kernel.{Stage, divisor, passAt}
 use Rattle.meaning.specs.Smoothing.{listOf, convolved, result, results, pass}
 use Rattle.meaning.specs.Picture.{cell, pixel, grid, picture, row, column, across, down}
 use Rattle.theory.specs.Folding.{Folding}
 use Rattle.theory.specs.Convolution.{convolved-ext, convolved-swap}
 use Rattle.theory.specs.Lists.{length-listOf, at-listOf, listOf-ext, listOf-at, Sized, sized, sized-listOf}
-use Rattle.theory.specs.Passes.{length-results, at-results, results-none, results-cons}
+use Rattle.theory.specs.Passes.{length-results, at-results, at-pass, results-none, results-cons}
 use Rattle.theory.specs.Sizes.{convolved-size}
 
 -- ---- a picture by its cells
@@ -93,13 +95,21 @@ pub at-column : (W H : ℕ) (f : List ℤ) (x y : ℕ) → y < H → at (column 
 unfolding column
 at-column W H f x y h = at-listOf H _ y h
 
+pub row-inside : (W : ℕ) {y H : ℕ} → y < H → y * W + W ≤ W * H
+row-inside W {y} {H} h = omega (arith, mul-le-mul-right W h)
+
+pub row-part : (W H : ℕ) (f : List ℤ) → length f ≡ W * H → (y : ℕ) → y < H → take W (drop (y * W) f) ≡ row W f y
+row-part W H f e y h =
+    let n : length (take W (drop (y * W) f)) ≡ W = length-take-le W (drop (y * W) f) (rw (length-drop (y * W) f) (omega (arith, row-inside W h))) in
+    ext-getD (pos 0) _ _ (n ∙ sym (length-row W f y)) (λ x l. getD-take W (drop (y * W) f) x (pos 0) (omega arith) ∙ getD-drop (y * W) f x (pos 0) ∙ sym (at-row W f x y (omega arith)))
+
+pub sized-column : {M : ℕ} (W H : ℕ) {f : List ℤ} → Sized M f → (x : ℕ) → Sized M (column W H f x)
+unfolding column
+sized-column W H h x = sized-listOf H _ (λ y l. h .size (y * W + x))
+
 pub length-across : (op : List ℤ → List ℤ) (W H : ℕ) (f : List ℤ) → length (across op W H f) ≡ W * H
 unfolding across
 length-across op W H f = length-grid W H _
-
-pub cell-across : (op : List ℤ → List ℤ) (W H : ℕ) (f : List ℤ) (x y : ℕ) → x < W → y < H → cell W (across op W H f) x y ≡ at (op (row W f y)) x
-unfolding across
-cell-across op W H f x y = cell-grid W H _ x y
 
 pub length-down : (op : List ℤ → List ℤ) (W H : ℕ) (f : List ℤ) → length (down op W H f) ≡ W * H
 unfolding down
@@ -117,10 +127,6 @@ pub cell-picture : (φ ψ : IndexMap) (hs vs : List Stage) (W H : ℕ) (f : List
 unfolding picture
 cell-picture φ ψ hs vs W H f x y = cell-grid W H _ x y
 
-pub across-ext : (p q : List ℤ → List ℤ) (W H : ℕ) (f : List ℤ) → ((g : List ℤ) → length g ≡ W → p g ≡ q g) → across p W H f ≡ across q W H f
-unfolding across
-across-ext p q W H f e = grid-ext W H (λ x y l m. ap (λ (g : List ℤ). at g x) (e (row W f y) (length-row W f y)))
-
 pub down-ext : (p q : List ℤ → List ℤ) (W H : ℕ) (f : List ℤ) → ((g : List ℤ) → length g ≡ H → p g ≡ q g) → down p W H f ≡ down q W H f
 unfolding down
 down-ext p q W H f e = grid-ext W H (λ x y l m. ap (λ (g : List ℤ). at g y) (e (column W H f x) (length-column W H f x)))
@@ -133,27 +139,24 @@ pub column-down : (op : List ℤ → List ℤ) → Keeps op → (W H : ℕ) (f :
 unfolding column down
 column-down op k W H f x h = listOf-ext H (λ y l. cell-grid W H _ x y h l) ∙ listOf-at H (op (column W H f x)) (k (column W H f x) ∙ length-column W H f x)
 
-pub across-across : (p q : List ℤ → List ℤ) → Keeps q → (W H : ℕ) (f : List ℤ) → across p W H (across q W H f) ≡ across (λ l. p (q l)) W H f
-unfolding across
-across-across p q k W H f = grid-ext W H (λ x y l m. ap (λ (g : List ℤ). at (p g) x) (row-across q k W H f y m))
-
 pub down-down : (p q : List ℤ → List ℤ) → Keeps q → (W H : ℕ) (f : List ℤ) → down p W H (down q W H f) ≡ down (λ l. p (q l)) W H f
 unfolding down
 down-down p q k W H f = grid-ext W H (λ x y l m. ap (λ (g : List ℤ). at (p g) y) (column-down q k W H f x l))
 
--- ---- passes over every row, and over every column
-module _ {φ : IndexMap} (F : Folding φ) where
-  pub across-cons : (s : Stage) (ss : List Stage) (W H : ℕ) (f : List ℤ) → across (results φ (s ∷ ss)) W H f ≡ across (pass φ s) W H (across (results φ ss) W H f)
-  across-cons s ss W H f = across-ext _ _ W H f (λ g e. results-cons F s ss g) ∙ sym (across-across (pass φ s) (results φ ss) (length-results φ ss) W H f)
+pub cell-passed : (φ : IndexMap) (s : Stage) (W H : ℕ) (f : List ℤ) (x y : ℕ) → x < W → y < H → cell W (down (pass φ s) W H f) x y ≡ passAt s (ext φ (column W H f x)) (pos y)
+cell-passed φ s W H f x y hx hy = cell-down (pass φ s) W H f x y hx hy ∙ at-pass φ s (column W H f x) y (omega (arith, length-column W H f x))
 
+-- ---- passes over every column
+module _ {φ : IndexMap} (F : Folding φ) where
   pub down-cons : (s : Stage) (ss : List Stage) (W H : ℕ) (f : List ℤ) → down (results φ (s ∷ ss)) W H f ≡ down (pass φ s) W H (down (results φ ss) W H f)
   down-cons s ss W H f = down-ext _ _ W H f (λ g e. results-cons F s ss g) ∙ sym (down-down (pass φ s) (results φ ss) (length-results φ ss) W H f)
 
-  pub across-none : (W H : ℕ) (f : List ℤ) → length f ≡ W * H → across (results φ []) W H f ≡ f
-  across-none W H f e = across-ext _ (λ g. g) W H f (λ g l. results-none F g) ∙ unfold across row in (grid-ext W H (λ x y l m. at-listOf W _ x l) ∙ grid-cell W H f e)
-
   pub down-none : (W H : ℕ) (f : List ℤ) → length f ≡ W * H → down (results φ []) W H f ≡ f
   down-none W H f e = down-ext _ (λ g. g) W H f (λ g l. results-none F g) ∙ unfold down column in (grid-ext W H (λ x y l m. at-listOf H _ y m) ∙ grid-cell W H f e)
+
+  pub ext-column : (W : ℕ) {H : ℕ} → 0 < H → (f : List ℤ) (x : ℕ) (z : ℤ) → ext φ (column W H f x) z ≡ cell W f x (φ H z)
+  unfolding ext
+  ext-column W {H} h f x z = rw (length-column W H f x) (at-column W H f x (φ H z) (F .below h z))
 
   -- a result of a line whose cells are g
   at-line : (ss : List Stage) (n : ℕ) (g : ℕ → ℤ) (i : ℕ) → i < n → at (results φ ss (listOf n g)) i ≡ convolved ss (λ x. g (φ n x)) (pos i)
@@ -187,8 +190,8 @@ module _ (op : List ℤ → List ℤ) {M Q : ℕ} (k : (g : List ℤ) → Sized 
   across-size W H {f} h = sized-grid W H _ (λ x y. k _ (sized-listOf W _ (λ i l. h .size (y * W + i))) .size x)
 
   pub down-size : (W H : ℕ) {f : List ℤ} → Sized M f → Sized Q (down op W H f)
-  unfolding down column
-  down-size W H {f} h = sized-grid W H _ (λ x y. k _ (sized-listOf H _ (λ i l. h .size (i * W + x))) .size y)
+  unfolding down
+  down-size W H {f} h = sized-grid W H _ (λ x y. k _ (sized-column W H h x) .size y)
 
 pub picture-size : (φ ψ : IndexMap) (hs vs : List Stage) (W H : ℕ) {M : ℕ} {f : List ℤ} → Sized M f → Sized (M * (divisor hs * divisor vs)) (picture φ ψ hs vs W H f)
 unfolding picture pixel

@@ -25,7 +25,8 @@ use Rattle.meaning.specs.Record.{readRecord}
 use Rattle.meaning.specs.Program.{firstLine, resultLines, report, jobStages, jobSmoothed, program}
 use Rattle.theory.specs.Encoding.{length-decimal}
 use Rattle.theory.specs.Refusals.{ifDone-done, ifDone-refused}
-use Rattle.theory.specs.Accepted.{series-allowed, accepted-divisor}
+use Rattle.theory.specs.Accepted.{accepted-divisor}
+use Rattle.theory.specs.AcceptedSmoothings.{series-allowed}
 
 -- ---- the first line
 pub firstLine-words : (a b c : ℕ) → firstLine a b c ≡ text "smooth " ++ (decimal (pos a) ++ 32 ∷ []) ++ (decimal (pos b) ++ 32 ∷ []) ++ (decimal (pos c) ++ 10 ∷ [])

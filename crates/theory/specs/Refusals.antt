@@ -4,21 +4,25 @@
 --   Unplaced m rows   every row has position 0 and a number below m
 --   Off rows          no row applies
 --   done              the answer 0 with position 0
+--   rowsOf tests xs   a row for each numbered test, which applies where it is true of one of xs
+--   Lower a b c       c is that of a and b with the lower number, where 0 is none
 -- Laws: first-on, first-off (the first row applies, or not), first-applies (the answer is that of a row that applies), first-lowest (where the numbers rise, of the lowest);
 -- first-parts (the answer is that of rows without position, or that of the rest), first-unplaced;
 -- done-off, off-done, done-none, none-done (it is 0 exactly where none applies); off-append, append-off; refused-first, done-rest (rows in two parts);
--- ifDone-done, ifDone-refused, ifDone-ext; plan-numbered, common-numbered.
+-- off-more, more-off (the same tests of one thing more), two-lower (of two things, by the rows of each);
+-- ifDone-done, ifDone-refused, ifDone-ext; plan-numbered, common-numbered, common-size (where row 7 applies, row 8 does not matter).
 use mathlib.Core.Path.{_≡_, refl, sym, _∙_, ap}
 use mathlib.Core.Logic.{_⊎_, inl, inr, ⊎-elim, ⊎-map}
-use mathlib.Core.Bool.{Bool, true, false, cond, _&&_, true≢false}
+use mathlib.Core.Bool.{Bool, true, false, cond, _&&_, _||_, true≢false}
 use mathlib.Core.List.{List, [], _∷_, _++_, append-nil}
-use Prim.Native.Nat.{ℕ, _≤_, _<_}
+use Prim.Native.Nat.{ℕ, _*_, _≤_, _<_}
 use native.Mathlib.Decide.{ℕ-discrete}
 use native.Mathlib.Omega.{arith}
 use lib.Dec.{T, ltb, eqb}
 use borrow.Author.Tests.{ltb-true, eqb-true, eq-eqb, ne-eqb}
 use Rattle.meaning.specs.Kernel.{Stage}
-use Rattle.meaning.specs.Refusals.{Answer, Row, firstOf, Applies, here, later, Shape, planRows, sizeRows, commonRows, ifDone}
+use Rattle.theory.specs.Tests.{or-no, no-or}
+use Rattle.meaning.specs.Refusals.{Answer, Row, firstOf, Applies, here, later, _when_, some, Shape, planRows, sizeRows, commonRows, ifDone}
 
 abbrev pub done : Answer
 done = record { number = 0; position = 0 }
@@ -163,6 +167,48 @@ refused-first (row ∷ rows) more {a} e n = go (row .applies) (λ f. refused-fir
 pub done-rest : (rows more : List Row) {a b : Answer} → Numbered rows → a ≡ firstOf rows → a .number ≡ 0 → b ≡ firstOf more → b ≡ firstOf (rows ++ more)
 done-rest rows more {a} t e z f = f ∙ sym (off-skip rows more (done-off rows t (rw (← e) z)))
 
+-- ---- the same tests of two things
+abbrev Before : Answer → Answer → Type 0
+Before a b = 0 < b .number → (0 < a .number) × (a .number ≤ b .number)
+
+abbrev pub Lower : Answer → Answer → Answer → Type 0
+Lower a b c = (Before a b → a ≡ c) × (Before b a → b ≡ c)
+
+abbrev pub rowsOf : {A : Type 0} → List (ℕ × (A → Bool)) → List A → List Row
+rowsOf [] xs = []
+rowsOf (test ∷ tests) xs = (test .0 when some (test .1) xs) ∷ rowsOf tests xs
+
+pub off-more : {A : Type 0} (tests : List (ℕ × (A → Bool))) (x : A) (xs : List A) → Off (rowsOf tests (x ∷ xs)) → Off (rowsOf tests (x ∷ [])) × Off (rowsOf tests xs)
+unfolding some
+off-more [] x xs h = (tt, tt)
+off-more (test ∷ tests) x xs (h, k) =
+    let (a, b) = or-no (test .1 x) (some (test .1) xs) h in
+    let (c, d) = off-more tests x xs k in
+    ((no-or a refl, c), (b, d))
+
+pub more-off : {A : Type 0} (tests : List (ℕ × (A → Bool))) (x : A) (xs : List A) → Off (rowsOf tests (x ∷ [])) → Off (rowsOf tests xs) → Off (rowsOf tests (x ∷ xs))
+unfolding some
+more-off [] x xs h k = tt
+more-off (test ∷ tests) x xs (a, c) (b, d) = (no-or (or-no (test .1 x) false a .0) b, more-off tests x xs c d)
+
+-- one row more in front, with a number below those of the others
+lower-step : (r a b c : Answer) (s t : Bool) → 0 < r .number → (0 < a .number → r .number < a .number) → (0 < b .number → r .number < b .number) → Lower a b c → Lower (cond (s || false) r a) (cond (t || false) r b) (cond (s || (t || false)) r c)
+lower-step r a b c true true l low-a low-b k = (λ h. refl, λ h. refl)
+lower-step r a b c true false l low-a low-b k = (λ h. refl, λ h. absurd (omega (arith, h l, low-b (h l .0))))
+lower-step r a b c false true l low-a low-b k = (λ h. absurd (omega (arith, h l, low-a (h l .0))), λ h. refl)
+lower-step r a b c false false l low-a low-b k = k
+
+first-above : (m : ℕ) (rows : List Row) → T (risesFrom m rows) → 0 < firstOf rows .number → m < firstOf rows .number
+first-above m rows t l = lowest-from m rows t (first-applies rows (λ z. omega arith)) .1
+
+-- the numbers rise from above m
+pub two-lower : (m : ℕ) {A : Type 0} (tests : List (ℕ × (A → Bool))) (x y : A) → ((xs : List A) → T (risesFrom m (rowsOf tests xs))) → Lower (firstOf (rowsOf tests (x ∷ []))) (firstOf (rowsOf tests (y ∷ []))) (firstOf (rowsOf tests (x ∷ y ∷ [])))
+unfolding firstOf some
+two-lower m [] x y t = (λ h. refl, λ h. refl)
+two-lower m {A} ((n, test) ∷ tests) x y t =
+    let u : (xs : List A) → (m < n) × T (risesFrom n (rowsOf tests xs)) = λ xs. split-lt m n (risesFrom n (rowsOf tests xs)) (t xs) in
+    lower-step _ _ _ _ (test x) (test y) (omega (arith, u [] .0)) (first-above n (rowsOf tests (x ∷ [])) (u _ .1)) (first-above n (rowsOf tests (y ∷ [])) (u _ .1)) (two-lower n tests x y (λ xs. u xs .1))
+
 -- ---- what a call leaves
 pub ifDone-done : {A : Type 0} (a : Answer) (new old : A) → a .number ≡ 0 → ifDone a new old ≡ new
 unfolding ifDone
@@ -188,3 +234,11 @@ plan-numbered ps = tt
 pub common-numbered : (s : Shape) (M : ℕ) (wrongLength : Bool) → Numbered (commonRows s M wrongLength)
 unfolding planRows sizeRows
 common-numbered s M wrongLength = tt
+
+pub common-size : (s : Shape) (M : ℕ) {a b : Bool} → (s .badSize ≡ false → a ≡ b) → firstOf (commonRows s M a) ≡ firstOf (commonRows s M b)
+unfolding planRows sizeRows firstOf
+common-size s M {a} {b} h = go (s .badSize) h
+  where
+    go : (bad : Bool) → (bad ≡ false → a ≡ b) → firstOf (planRows (s .plans) ++ sizeRows M (M * s .divisor) bad a) ≡ firstOf (planRows (s .plans) ++ sizeRows M (M * s .divisor) bad b)
+    go true k = refl
+    go false k = rw (k refl)
