@@ -1,6 +1,6 @@
 -- Numbers tested against the largest result, with no wrap: where a product is larger, one above the limit stands for it.
 --   capped x   x, or one above the largest result where x is larger
--- Laws: capped-below (a number that is not capped), capped-test, capped-times (one factor more), sizeRows-capped.
+-- Laws: capped-below (a number that is not capped), capped-test; capped-times, capped-again (one factor more); sizeRows-capped.
 use Prim.Native.Nat.{ℕ, suc, _*_, _≤_, _<_, min}
 use mathlib.Core.Path.{_≡_, sym, _∙_, ap}
 use native.Mathlib.Nat.{le-mul-of-pos-right}
@@ -25,12 +25,15 @@ capped-test x y e = go (decLt maxResult x)
     go (yes l) = lt-ltb maxResult x l ∙ sym (lt-ltb maxResult y (omega arith))
     go (no l) = ap (ltb maxResult) (capped-below x y e (omega arith))
 
-pub capped-times : (x y r : ℕ) {d : ℕ} → 1 ≤ d → capped x ≡ capped y → r ≡ capped (x * d) → capped r ≡ capped (y * d)
-capped-times x y r {d} l e f = go (decLt maxResult x)
+pub capped-times : (x y : ℕ) {d : ℕ} → 1 ≤ d → capped x ≡ capped y → capped (x * d) ≡ capped (y * d)
+capped-times x y {d} l e = go (decLt maxResult x)
   where
-    go : Dec (maxResult < x) → capped r ≡ capped (y * d)
+    go : Dec (maxResult < x) → capped (x * d) ≡ capped (y * d)
     go (yes g) = omega (arith, le-mul-of-pos-right x l, le-mul-of-pos-right y l)
-    go (no g) = let same : x * d ≡ y * d = ap (λ n. n * d) (capped-below x y e (omega arith)) in omega arith
+    go (no g) = ap (λ n. capped (n * d)) (capped-below x y e (omega arith))
+
+pub capped-again : (x y r : ℕ) {d : ℕ} → 1 ≤ d → capped x ≡ capped y → r ≡ capped (x * d) → capped r ≡ capped (y * d)
+capped-again x y r {d} l e f = omega (arith, f, capped-times x y l e)
 
 pub sizeRows-capped : (M x y : ℕ) (badSize wrongLength : Bool) → capped x ≡ capped y → sizeRows M x badSize wrongLength ≡ sizeRows M y badSize wrongLength
 unfolding sizeRows

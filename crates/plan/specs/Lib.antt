@@ -2,8 +2,10 @@
 --   Structs   the code's structs as the definitions have them
 --   Capped    products that cannot wrap
 --   Tested    what the tests say of a plan
+--   Sides     the cells of a picture
 --   Span      what lies within reach of a place
 pub mod Structs
 pub mod Capped
 pub mod Tested
+pub mod Sides
 pub mod Span

@@ -1,12 +1,12 @@
 -- What the test of rows 1 to 4 says of a plan, and the plan's own divisor and reach after it.
 --   Tested p   rows 1 to 4 do not apply to p, by its numbers
--- Laws: allowed-tested, tested-allowed; plan-tested (the test, row by row), plan-passed;
+-- Laws: allowed-tested, tested-allowed; plan-tested (the test, row by row), plan-passed; plans-passed, plans-product (of two plans);
 -- divisor-failed, divisor-large, divisor-done; reach-failed, reach-passed, reach-done.
 use Prim.Native.Nat.{ℕ, _*_, _≤_, _<_}
 use mathlib.Core.Path.{_≡_, sym, _∙_, ap}
 use mathlib.Core.Bool.{Bool}
 use mathlib.Core.List.{[], _∷_}
-use native.Mathlib.Nat.{one-mul}
+use native.Mathlib.Nat.{one-mul, mul-assoc}
 use native.Mathlib.Omega.{arith}
 use lib.Dec.{leb, ltb}
 use lib.ListN.{length-replicate}
@@ -16,10 +16,10 @@ use Rattle.meaning.specs.Refusals.{Answer, _when_, firstOf, outside, planRows, 
 use Rattle.meaning.specs.Bounds.{AllowedPlan, AcceptedPlan}
 use Rattle.theory.specs.Stages.{reach-replicate}
 use Rattle.theory.specs.Refusals.{done-off, off-done, plan-numbered}
-use Rattle.theory.specs.Accepted.{plan-rows, plan-allowed, allowed-plan, stage-allowed, allowed-stages, divisor-allowed, accepted-divisor, accepted-reach, no-divisor, no-reach, divisor-accepted}
+use Rattle.theory.specs.Accepted.{plan-rows, plan-allowed, plans-allowed, allowed-plan, stage-allowed, allowed-stages, divisor-allowed, accepted-divisor, accepted-reach, no-divisor, no-reach, divisor-accepted}
 use Rattle.plan.specs.declared.Plan.{Plan}
 use Rattle.plan.specs.Structs.{stageOf, stagesOf, plain}
-use Rattle.plan.specs.Capped.{capped, capped-below}
+use Rattle.plan.specs.Capped.{capped, capped-below, capped-times}
 
 pub record Tested (p : Plan) : Type 0 where
   pub passes : (least ≤ p .passes) × (p .passes ≤ maxPasses)
@@ -75,3 +75,13 @@ module _ (p : Plan) where
 
     pub reach-done : (d ≡ 0 → ⊥) → p .passes * tapReach (stageOf p) ≡ planReach (stagesOf p)
     reach-done h = sym (accepted-reach (stagesOf p) (accepted h) ∙ reach-replicate (p .passes) (stageOf p))
+
+-- ---- two plans
+module _ (p q : Plan) where
+  pub plans-passed : {n : ℕ} → plain n ≡ firstOf (planRows (stagesOf p ∷ stagesOf q ∷ [])) → n ≡ 0 → Tested p × Tested q
+  plans-passed e z =
+      let (a, b) = plans-allowed (stagesOf p) (stagesOf q) (done-off _ (plan-numbered _) (sym (ap (λ (a : Answer). a .number) e) ∙ z)) in
+      (allowed-tested p a, allowed-tested q b)
+
+  pub plans-product : (M x y : ℕ) → Tested q → capped x ≡ capped (M * divisor (stagesOf p)) → capped y ≡ capped (x * divisor (stagesOf q)) → capped y ≡ capped (M * (divisor (stagesOf p) * divisor (stagesOf q)))
+  plans-product M x y t e f = f ∙ capped-times x _ (divisor-allowed (stagesOf q) (tested-allowed q t .stages)) e ∙ ap capped (mul-assoc M (divisor (stagesOf p)) (divisor (stagesOf q)))

@@ -14,6 +14,7 @@ ghost use Rattle.theory.specs.Placed.{placedRows};
 ghost use Rattle.plan.specs.Structs.{stageOf, stagesOf, answerOf, plain};
 ghost use Rattle.plan.specs.Tested.{Tested};
 ghost use Rattle.plan.specs.Capped.{capped};
+ghost use Rattle.plan.specs.Sides.{pictureCells};
 ghost use Rattle.plan.specs.Span.{low, high};
 use crate::Answer;
 use crate::Plan;
@@ -73,6 +74,24 @@ pub fn plan_refusal(plan: Plan) -> u64
     let inner = outside(Plan::LEAST, Plan::MAX_INNER, plan.inner);
     let edge = plan.inner <= plan.edge;
     first_row(1, passes, radius, inner, edge)
+}
+
+// Rows 1 to 4 of two plans: the lower number of the two, where 0 is none.
+pub fn plans_refusal(across: Plan, down: Plan) -> u64
+    ensures { λ r. ⌜ plain r ≡ R.firstOf (R.planRows (stagesOf across ∷ stagesOf down ∷ [])) ⌝ }
+{
+    let a = plan_refusal(across);
+    let b = plan_refusal(down);
+    if a == 0 {
+        return b;
+    }
+    if b == 0 {
+        return a;
+    }
+    if a < b {
+        return a;
+    }
+    b
 }
 
 // The sum of one pass's taps.
@@ -161,6 +180,43 @@ pub fn position_refusal(
         return 9;
     }
     0
+}
+
+// Width times height, or 0 where row 7 applies. The sides are tested first, so that the product cannot wrap.
+pub fn picture_cells(width: u64, height: u64) -> usize
+    ensures { λ r. ⌜ r ≡ pictureCells width height ⌝ }
+{
+    if outside(Plan::LEAST, Plan::MAX_SIDE, width) {
+        return 0;
+    }
+    if outside(Plan::LEAST, Plan::MAX_SIDE, height) {
+        return 0;
+    }
+    let cells = width * height;
+    if Plan::MAX_LENGTH < cells {
+        return 0;
+    }
+    cells as usize
+}
+
+// Rows 1 to 8 of a picture.
+pub fn picture_refusal(
+    across: Plan,
+    down: Plan,
+    bound: u64,
+    width: u64,
+    height: u64,
+    wrong_length: bool,
+) -> u64
+    ensures { λ r. ⌜ plain r ≡ R.firstOf (R.commonRows (R.pictureOf (stagesOf across) (stagesOf down) width height) bound «wrong_length») ⌝ }
+{
+    let number = plans_refusal(across, down);
+    if number != 0 {
+        return number;
+    }
+    let product = scaled(scaled(bound, across), down);
+    let bad_size = picture_cells(width, height) == 0;
+    size_refusal(bound, product, bad_size, wrong_length)
 }
 
 // The size of a number, also of the lowest, which no i64 has with the other sign.

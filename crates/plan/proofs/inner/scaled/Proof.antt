@@ -7,7 +7,7 @@ use native.Mathlib.Omega.{arith}
 use borrow.Author.Needs.{needs}
 use Rattle.theory.specs.Stages.{divisor-replicate, tapSum-positive}
 use Rattle.plan.specs.Structs.{stageOf}
-use Rattle.plan.specs.Capped.{capped, capped-times}
+use Rattle.plan.specs.Capped.{capped, capped-again}
 use Rattle.plan.proofs.inner.scaled.Statement.{statement}
 use Rattle.plan.proofs.inner.scaled.Tie as tie
 
@@ -39,7 +39,7 @@ loop-again : tie.Need-loop-again Inv-loop μ-loop
 loop-again c =
     let l = c .before .before .loop in
     let d = c .before .before .before .tap-sum .result in
-    (omega arith, capped-times (l .product) _ _ (rw (c .before .before .before .tap-sum .ensures) (tapSum-positive _ (c .before .before .before .before .pre .inner .0))) (l .inv .1) (c .capped-times .ensures) ∙ ap capped (sym (grow _ d (l .k))))
+    (omega arith, capped-again (l .product) _ _ (rw (c .before .before .before .tap-sum .ensures) (tapSum-positive _ (c .before .before .before .before .pre .inner .0))) (l .inv .1) (c .capped-times .ensures) ∙ ap capped (sym (grow _ d (l .k))))
 
 returns : tie.Need-returns Inv-loop μ-loop
 returns c =
