@@ -1,9 +1,9 @@
--- The steps of a smoothing call, each over plain lists.
--- Laws: test-refused, test-rest (the rows in two parts, as the code tests them); ready (what an answer of 0 leaves), swapped;
+-- The steps of a smoothing call, each over plain lists; its test and its ends are those of any shape.
+-- Laws: test-refused, test-rest (the rows in two parts, as code tests them), series-lengths; ready (what an answer of 0 leaves), swapped;
 -- passable (each pass has room), after-none, after-next; call-refused, call-done.
 use Prim.Native.Nat.{ℕ, suc, _*_, _<_}
 use mathlib.Core.Path.{_≡_, refl, sym, _∙_, ap}
-use mathlib.Core.Bool.{Bool, true, _||_, _&&_}
+use mathlib.Core.Bool.{Bool, true, false, _||_, _&&_}
 use mathlib.Core.List.{List, [], _∷_, _++_}
 use native.Mathlib.Nat.{le-trans}
 use native.Mathlib.Omega.{arith}
@@ -11,40 +11,47 @@ use lib.ListN.{length, replicate}
 use lib.IntN.{ℤ, pos}
 use borrow.Author.Tests.{le-leb, lt-ltb}
 use Rattle.meaning.specs.Extension.{at, fold}
-use Rattle.meaning.specs.Kernel.{Stage, divisor}
+use Rattle.meaning.specs.Kernel.{divisor}
 use Rattle.meaning.specs.Smoothing.{results, pass}
-use Rattle.meaning.specs.Refusals.{Answer, firstOf, differs, within, above, seriesOf, commonRows}
-use Rattle.meaning.specs.Calls.{sampleRow, smoothRows, smoothed, smoothSeries}
+use Rattle.meaning.specs.Refusals.{Answer, firstOf, differs, within, above, Shape, seriesOf, commonRows}
+use Rattle.meaning.specs.Calls.{sampleRow, smoothRows, smoothed}
 use Rattle.theory.specs.HalfSample.{half-sample}
 use Rattle.theory.specs.Lists.{sized}
 use Rattle.theory.specs.Stages.{room-replicate}
 use Rattle.theory.specs.Passes.{length-results, results-none, results-cons}
 use Rattle.theory.specs.Sizes.{results-size}
-use Rattle.theory.specs.Refusals.{refused-first, done-rest, common-numbered, ifDone-done, ifDone-refused}
+use Rattle.theory.specs.Refusals.{refused-first, done-rest, common-numbered, common-size, ifDone-done, ifDone-refused}
 use Rattle.theory.specs.Places.{rowAt-ext}
 use Rattle.theory.specs.Tests.{no-differs}
-use Rattle.theory.specs.Accepted.{series-allowed}
+use Rattle.theory.specs.AcceptedSmoothings.{series-allowed}
 use Rattle.plan.specs.declared.Plan.{Plan}
 use Rattle.plan.specs.Structs.{stageOf, stagesOf}
 use Rattle.plan.specs.Tested.{allowed-tested}
 use Rattle.series.specs.Contract.{Gives}
 use Rattle.series.specs.Ready.{Ready, Passable, after}
 
--- ---- the test
-module _ (ss : List Stage) (M : ℕ) (f : List ℤ) (nr nw : ℕ) where
-  rows-tested : smoothRows (seriesOf ss (length f)) M f nr nw ≡ commonRows (seriesOf ss (length f)) M (differs nr (length f) || differs nw (length f)) ++ sampleRow M f (within 0 (length f)) ∷ []
+-- ---- the test of any shape, in the two parts that code makes: where row 7 applies, row 8 does not matter
+module _ (s : Shape) (M : ℕ) (f : List ℤ) (nr nw : ℕ) where
+  abbrev lengths : Bool
+  lengths = differs (length f) (s .cells) || differs nr (s .cells) || differs nw (s .cells)
+
+  rows-tested : smoothRows s M f nr nw ≡ commonRows s M lengths ++ sampleRow M f (within 0 (length f)) ∷ []
   unfolding smoothRows
-  rows-tested = rw (no-differs {n = length f} refl, rowAt-ext 11 (length f) {t = λ i. true && above M (at f i)} {u = λ i. within 0 (length f) i && above M (at f i)} (λ i l. rw (le-leb 0 i (omega arith), lt-ltb i (length f) l)))
+  rows-tested = rw (rowAt-ext 11 (length f) {t = λ i. true && above M (at f i)} {u = λ i. within 0 (length f) i && above M (at f i)} (λ i l. rw (le-leb 0 i (omega arith), lt-ltb i (length f) l)))
 
-  module _ {a : Answer} {wrong : Bool} (e : a ≡ firstOf (commonRows (seriesOf ss (length f)) M wrong)) (w : wrong ≡ (differs nr (length f) || differs nw (length f))) where
-    common : a ≡ firstOf (commonRows (seriesOf ss (length f)) M (differs nr (length f) || differs nw (length f)))
-    common = e ∙ ap (λ b. firstOf (commonRows (seriesOf ss (length f)) M b)) w
+  module _ {a : Answer} {wrong : Bool} (e : a ≡ firstOf (commonRows s M wrong)) (w : s .badSize ≡ false → wrong ≡ lengths) where
+    common : a ≡ firstOf (commonRows s M lengths)
+    common = e ∙ common-size s M w
 
-    pub test-refused : (a .number ≡ 0 → ⊥) → a ≡ firstOf (smoothRows (seriesOf ss (length f)) M f nr nw)
+    pub test-refused : (a .number ≡ 0 → ⊥) → a ≡ firstOf (smoothRows s M f nr nw)
     test-refused h = rw rows-tested (refused-first _ _ common h)
 
-    pub test-rest : a .number ≡ 0 → {b : Answer} → b ≡ firstOf (sampleRow M f (within 0 (length f)) ∷ []) → b ≡ firstOf (smoothRows (seriesOf ss (length f)) M f nr nw)
-    test-rest z g = rw rows-tested (done-rest _ _ (common-numbered (seriesOf ss (length f)) M _) common z g)
+    pub test-rest : a .number ≡ 0 → {b : Answer} → b ≡ firstOf (sampleRow M f (within 0 (length f)) ∷ []) → b ≡ firstOf (smoothRows s M f nr nw)
+    test-rest z g = rw rows-tested (done-rest _ _ (common-numbered s M _) common z g)
+
+-- of a series, whose samples have the length asked
+pub series-lengths : (N nr nw : ℕ) {wrong : Bool} → wrong ≡ (differs nr N || differs nw N) → wrong ≡ (differs N N || differs nr N || differs nw N)
+series-lengths N nr nw e = e ∙ rw (no-differs {n = N} refl)
 
 -- ---- the passes
 pub swapped : {p : Plan} {f : List ℤ} {nd no : ℕ} → Ready p f nd no → Ready p f no nd
@@ -70,15 +77,16 @@ passable {p} {f} h {k} {src} l e s =
       room = le-trans (room-replicate (h .bound) (stageOf p) (plan .inner .0) l) (a .common .product);
     }
 
--- ---- the two ends of a call whose test answered a
-module _ (p : Plan) (M : ℕ) (f r w : List ℤ) {a : Answer} (e : a ≡ firstOf (smoothRows (seriesOf (stagesOf p) (length f)) M f (length r) (length w))) where
-  pub ready : a .number ≡ 0 → Ready p f (length r) (length w)
-  ready z = record { bound = M; allowed = series-allowed (stagesOf p) M f (length r) (length w) (sym (ap (λ (x : Answer). x .number) e) ∙ z) }
+-- ---- what an answer of 0 leaves
+pub ready : (p : Plan) (M : ℕ) (f : List ℤ) (nr nw : ℕ) {a : Answer} → a ≡ firstOf (smoothRows (seriesOf (stagesOf p) (length f)) M f nr nw) → a .number ≡ 0 → Ready p f nr nw
+ready p M f nr nw e z = record { bound = M; allowed = series-allowed (stagesOf p) M f nr nw (sym (ap (λ (x : Answer). x .number) e) ∙ z) }
 
-  pub call-refused : (a .number ≡ 0 → ⊥) → Gives (smoothSeries fold (stagesOf p) M f r w) a r w
+-- ---- the two ends of a call whose test answered a, of any shape
+module _ (s : Shape) (M : ℕ) (new f r w : List ℤ) {a : Answer} (e : a ≡ firstOf (smoothRows s M f (length r) (length w))) where
+  pub call-refused : (a .number ≡ 0 → ⊥) → Gives (smoothed s M new f r w) a r w
   unfolding smoothed
   call-refused h = rw (← e) (record { answer = refl; results = sym (ifDone-refused a _ r h); work = sym (ifDone-refused a _ w h) })
 
-  pub call-done : {res wrk : List ℤ} {n : ℕ} → a .number ≡ 0 → res ≡ after (p .passes) p f → wrk ≡ replicate n (pos 0) → n ≡ length w → Gives (smoothSeries fold (stagesOf p) M f r w) a res wrk
+  pub call-done : {res wrk : List ℤ} {n : ℕ} → a .number ≡ 0 → res ≡ new → wrk ≡ replicate n (pos 0) → n ≡ length w → Gives (smoothed s M new f r w) a res wrk
   unfolding smoothed
   call-done z s t n = rw (← e) (record { answer = refl; results = s ∙ sym (ifDone-done a _ r z); work = t ∙ ap (λ k. replicate k (pos 0)) n ∙ sym (ifDone-done a _ w z) })

@@ -4,7 +4,7 @@
 --   Widening e j s lo hi           the locals of the first window at radius j: s so far, lo and hi the cells on either side
 --   Turn s e n b a w lo first hi   the locals of the pass at cell n: b and a the weights, w the window, lo and hi the cells
 --                                  on either side, first the one that leaves
--- Laws: windowed (room for a pass is room for its windows); widened-is, pair-fits, widened-fits; cell-is, cell-fits, low-next, slide-is, slide-fits;
+-- Laws: windowed (room for a pass is room for its windows), room-step (and for each of its steps), room-fits; widened-is, pair-fits, widened-fits; cell-is, cell-fits, low-next, slide-is, slide-fits;
 -- summable, window-room, pass-room (of a series, what the words of Ready say).
 use Prim.Native.Nat.{ℕ, suc, _+_, _*_, _≤_, _<_}
 use mathlib.Core.Path.{_≡_, sym, _∙_, ap, ap₂}
@@ -44,6 +44,12 @@ windowed {s} h =
     let more = le-mul-of-pos-right (s .radius * h .largest) (h .some) in
     record { largest = h .largest; size = h .size; room = omega (arith, one, more, h .room) }
 
+pub room-step : {s : Stage} {e : ℤ → ℤ} → Roomy s e → Step s e (2 * maxResult)
+room-step {s} h = step-size s (h .size) (h .some) (omega (arith, h .room))
+
+pub room-fits : {z : ℤ} → Abs z (2 * maxResult) → SFits w64 z
+room-fits h = fits-abs h (omega arith)
+
 -- ---- the first window
 pub record Widening (e : ℤ → ℤ) (j : ℕ) (s lo hi : ℤ) : Type 0 where
   pub sum : s ≡ window e j (pos 0)
@@ -80,9 +86,6 @@ back n r = simp diff (omega linear)
 on : (n r : ℕ) → n + r + 1 ≡ n + suc r
 on n r = omega arith
 
-fits : {z : ℤ} → Abs z (2 * maxResult) → SFits w64 z
-fits h = fits-abs h (omega arith)
-
 module _ {s : Stage} {e : ℤ → ℤ} {n : ℕ} {b a w lo first hi : ℤ} (t : Turn s e n b a w lo first hi) where
   weighed-is : b *ℤ w +ℤ a *ℤ (lo +ℤ hi) ≡ passAt s e (pos n)
   weighed-is = rw (t .inner, t .edge, t .sum, t .low, t .enters, on n (s .radius), add-one (s .radius)) (sym (passAt-window e s (pos n)))
@@ -100,14 +103,14 @@ module _ {s : Stage} {e : ℤ → ℤ} {n : ℕ} {b a w lo first hi : ℤ} (t : 
       (ap (λ z. z -ℤ e (pos n -ℤ pos (s .radius))) (sym (window-slide e (s .radius) (pos n))) ∙ +ℤ-negℤ-cancel _ _)
 
   module _ (h : Roomy s e) where
-    step : Step s e (2 * maxResult)
-    step = step-size s (h .size) (h .some) (omega (arith, h .room))
-
     pub cell-fits : SFits w64 (b *ℤ w) × (SFits w64 (lo +ℤ hi) × (SFits w64 (a *ℤ (lo +ℤ hi)) × SFits w64 (b *ℤ w +ℤ a *ℤ (lo +ℤ hi))))
-    cell-fits = rw (weighed-is, t .inner, t .edge, t .sum, t .low, t .enters) (fits (step .weighed _), (fits (step .pair _ _), (fits (step .edges _ _), fits (step .written _))))
+    cell-fits =
+        let step = room-step h in
+        rw (weighed-is, t .inner, t .edge, t .sum, t .low, t .enters)
+        (room-fits (step .weighed _), (room-fits (step .pair _ _), (room-fits (step .edges _ _), room-fits (step .written _))))
 
     pub slide-fits : SFits w64 (w +ℤ hi) × SFits w64 (w +ℤ hi -ℤ first)
-    slide-fits = rw (slide-is, t .sum, t .enters) (fits (step .entered _ _), fits (step .held _))
+    slide-fits = rw (slide-is, t .sum, t .enters) (room-fits (room-step h .entered _ _), room-fits (room-step h .held _))
 
 -- ---- of a series
 pub window-room : {r : ℕ} {f : List ℤ} → Summable r f → Windowed r (ext fold f)

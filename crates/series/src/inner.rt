@@ -1,4 +1,4 @@
-// One pass over a series, by a running sum; copies and zeros.
+// The passes over a series, each by a running sum; copies and zeros.
 ghost use mathlib.Core.Path.{_≡_};
 ghost use Prim.Native.Nat.{_*_, _^_, _≤_, _<_};
 ghost use lib.ListN.{length, replicate};
@@ -9,11 +9,11 @@ ghost use Rattle.meaning.specs.Extension.{fold, ext};
 ghost use Rattle.meaning.specs.Smoothing as S;
 ghost use Rattle.theory.specs.Slide.{window};
 ghost use Rattle.plan.specs.Structs.{stageOf};
-ghost use Rattle.series.specs.Ready.{Summable, Passable};
+ghost use Rattle.series.specs.Ready.{Summable, Passable, Ready, after};
 use plan::Plan;
 
 // Which of len cells the extension has at i.
-fn fold_at(i: usize, len: usize) -> usize
+pub fn fold_at(i: usize, len: usize) -> usize
     requires { ⌜ 1 ≤ len ⌝ }
     requires { ⌜ 2 * len < 2 ^ 64 ⌝ }
     ensures { λ r. ⌜ r ≡ fold len (pos i) ⌝ }
@@ -26,6 +26,19 @@ fn fold_at(i: usize, len: usize) -> usize
     if m < len { m } else { 2 * len - 1 - m }
 }
 
+// Which of len cells the extension has at n - d. What stands at -1 - j stands at j too.
+pub fn fold_behind(n: usize, d: usize, len: usize) -> usize
+    requires { ⌜ 1 ≤ len ⌝ }
+    requires { ⌜ 2 * len < 2 ^ 64 ⌝ }
+    ensures { λ r. ⌜ r ≡ fold len (pos n -ℤ pos d) ⌝ }
+{
+    if d <= n {
+        fold_at(n - d, len)
+    } else {
+        fold_at(d - n - 1, len)
+    }
+}
+
 // The extension of src at i.
 fn ahead(src: &[i64], i: usize) -> i64
     requires { ⌜ 1 ≤ length (now src) ⌝ }
@@ -34,16 +47,12 @@ fn ahead(src: &[i64], i: usize) -> i64
     src[fold_at(i, src.len())]
 }
 
-// The extension of src at n - d. What stands at -1 - j stands at j too.
+// The extension of src at n - d.
 fn behind(src: &[i64], n: usize, d: usize) -> i64
     requires { ⌜ 1 ≤ length (now src) ⌝ }
     ensures { λ r. ⌜ r ≡ ext fold (now (src .entry)) (pos n -ℤ pos d) ⌝ }
 {
-    if d <= n {
-        ahead(src, n - d)
-    } else {
-        ahead(src, d - n - 1)
-    }
+    src[fold_behind(n, d, src.len())]
 }
 
 // The window around 0, from the centre outward: what stands at -(j + 1) is what stood at j.
@@ -127,4 +136,17 @@ pub fn clear(dst: &mut [i64])
         dst[i] = 0;
         i += 1;
     }
+}
+
+// k passes of the samples into dst. The pass before stands in the other slice, so none reads a cell that it has written.
+pub fn smooth_into(plan: Plan, k: u64, samples: &[i32], dst: &mut [i64], other: &mut [i64])
+    requires { ⌜ (k ≤ plan .passes) × Ready plan (now samples) (length (now dst)) (length (now other)) ⌝ }
+    ensures { λ _. ⌜ now (dst .exit) ≡ after k plan (now (samples .entry)) ⌝ }
+{
+    if k == 0 {
+        load(samples, dst);
+        return;
+    }
+    smooth_into(plan, k - 1, samples, other, dst);
+    pass(plan, other, dst);
 }

@@ -7,7 +7,7 @@ use plan::Answer;
 use plan::Plan;
 
 pub mod inner;
-mod smoothing;
+mod testing;
 
 // Smooths the samples into the results, and leaves zeros in work. A refused call changes no cell.
 pub fn smooth_series(
@@ -19,11 +19,11 @@ pub fn smooth_series(
 ) -> Answer
     ensures { λ r. ⌜ Gives (smoothSeries fold (stagesOf plan) bound (now (samples .entry)) (now (results .entry)) (now (work .entry))) (answerOf r) (now (results .exit)) (now (work .exit)) ⌝ }
 {
-    let answer = smoothing::refusal(plan, bound, samples, results.len(), work.len());
+    let answer = testing::refusal(plan, bound, samples, results.len(), work.len());
     if answer.number != 0 {
         return answer;
     }
-    smoothing::smooth_into(plan, plan.passes, samples, results, work);
+    inner::smooth_into(plan, plan.passes, samples, results, work);
     inner::clear(work);
     answer
 }

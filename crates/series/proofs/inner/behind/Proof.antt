@@ -1,43 +1,30 @@
--- What stands at -1 - j stands at j.
-use Prim.Native.Nat.{ℕ, _-_, _<_}
-use mathlib.Core.Path.{_≡_, sym, ap, _∙_}
-use mathlib.Core.List.{List}
-use native.Mathlib.Omega.{arith}
-use lib.IntN.{ℤ, pos, _-ℤ_}
+-- The fold stays within the series.
+use Prim.Native.Nat.{_<_}
+use mathlib.Core.Path.{ap, _∙_}
+use lib.ListN.{length}
+use lib.IntN.{pos, _-ℤ_}
 use mir.Facts.{toZ-ofZ}
 use borrow.Author.Needs.{needs, sfits-of}
-use Rattle.algebra.specs.Difference.{⊖-is, ⊖-negsuc, sub-pos}
-use Rattle.meaning.specs.Extension.{fold, ext}
-use Rattle.theory.specs.HalfSample.{ext-negsuc}
+use Rattle.meaning.specs.Extension.{at, ext}
+use Rattle.theory.specs.HalfSample.{half-sample}
 use Rattle.series.proofs.inner.behind.Statement.{statement}
 use Rattle.series.proofs.inner.behind.Tie as tie
 
-ahead-requires : tie.Need-ahead-requires
-ahead-requires c κs = search needs
+fold-behind-requires : tie.Need-fold-behind-requires
+fold-behind-requires c κs = search needs
 
-sub-ahead : tie.Need-sub-ahead
-sub-ahead c = search needs
+inside : (c : tie.After-fold-behind) → c .fold-behind .result < length (c .before .args .src .now)
+inside c = rw (c .fold-behind .ensures) (half-sample .below (c .before .pre) (pos (c .before .args .n) -ℤ pos (c .before .args .d)))
 
-sub-ahead-2 : tie.Need-sub-ahead-2
-sub-ahead-2 c = search needs
+mul-result : tie.Need-mul-result
+mul-result c = let h = inside c in search needs
 
-ahead-requires-2 : tie.Need-ahead-requires-2
-ahead-requires-2 c κs = search needs
+shared-slice-copy-out-result : tie.Need-shared-slice-copy-out-result
+shared-slice-copy-out-result c = inside c
 
 returns : tie.Need-returns
-returns c =
-    let a = c .before .before .args in
-    toZ-ofZ (sfits-of (c .ahead .ok)) ∙ c .ahead .ensures ∙ ap (ext fold (a .src .now)) (sym (sub-pos (a .n) (a .d) (c .before .if1 .taken)))
-
--- below 0
-mirrored : (f : List ℤ) (n d : ℕ) → n < d → ext fold f (pos (d - n - 1)) ≡ ext fold f (pos n -ℤ pos d)
-mirrored f n d l = sym (ext-negsuc f (d - n - 1)) ∙ ap (ext fold f) (sym (⊖-is n d ∙ ⊖-negsuc n d (d - n - 1) (omega arith)))
-
-returns-2 : tie.Need-returns-2
-returns-2 c =
-    let a = c .before .before .args in
-    toZ-ofZ (sfits-of (c .ahead2 .ok)) ∙ c .ahead2 .ensures ∙ mirrored (a .src .now) (a .n) (a .d) (omega arith)
+unfolding ext
+returns c = toZ-ofZ (sfits-of (c .result .given)) ∙ ap (at (c .before .before .args .src .now)) (c .before .fold-behind .ensures)
 
 pub behind-spec : {M : Type 1} → statement M
-behind-spec =
-    tie.close (tie.spec ahead-requires sub-ahead sub-ahead-2 ahead-requires-2 returns returns-2)
+behind-spec = tie.close (tie.spec fold-behind-requires mul-result shared-slice-copy-out-result returns)

@@ -1,16 +1,12 @@
-// The steps of smoothing a series: the test, and the passes.
+// What smoothing a series answers.
 ghost use mathlib.Core.Path.{_≡_};
-ghost use Prim.Native.Nat.{_≤_};
 ghost use lib.ListN.{length};
 ghost use Rattle.meaning.specs.Refusals as R;
 ghost use Rattle.meaning.specs.Calls as C;
 ghost use Rattle.plan.specs.Structs.{stagesOf, answerOf};
-ghost use Rattle.series.specs.Ready.{Ready, after};
-use crate::inner;
 use plan::Answer;
 use plan::Plan;
 
-// What smoothing a series answers.
 pub(crate) fn refusal(
     plan: Plan,
     bound: u64,
@@ -30,17 +26,4 @@ pub(crate) fn refusal(
         };
     }
     plan::inner::sample_refusal(bound, samples, 0, n)
-}
-
-// k passes of the samples into dst. The pass before stands in the other slice, so none reads a cell that it has written.
-pub(crate) fn smooth_into(plan: Plan, k: u64, samples: &[i32], dst: &mut [i64], other: &mut [i64])
-    requires { ⌜ (k ≤ plan .passes) × Ready plan (now samples) (length (now dst)) (length (now other)) ⌝ }
-    ensures { λ _. ⌜ now (dst .exit) ≡ after k plan (now (samples .entry)) ⌝ }
-{
-    if k == 0 {
-        inner::load(samples, dst);
-        return;
-    }
-    smooth_into(plan, k - 1, samples, other, dst);
-    inner::pass(plan, other, dst);
 }

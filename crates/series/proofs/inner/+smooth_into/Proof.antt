@@ -7,13 +7,13 @@ use borrow.Fn.Kinds.{In}
 use borrow.Fn.PlainCycle.{Measures, is, falls, and}
 use Rattle.series.specs.Ready.{after}
 use Rattle.series.specs.Steps.{swapped, passable, after-none, after-next}
-use Rattle.series.proofs.smoothing.smooth_into.Reads as smooth-into
-use Rattle.series.proofs.smoothing.smooth_into.Kinds as kinds
-use Rattle.series.proofs.smoothing.+smooth_into.Lts-smooth_into as lts
+use Rattle.series.proofs.inner.smooth_into.Reads as smooth-into
+use Rattle.series.proofs.inner.smooth_into.Kinds as kinds
+use Rattle.series.proofs.inner.+smooth_into.Lts-smooth_into as lts
 use Rattle.series.proofs.inner.load.Reads as load
 use Rattle.series.proofs.inner.pass.Reads as pass
-use Rattle.series.proofs.smoothing.+smooth_into.{statement}
-use Rattle.series.proofs.smoothing.+smooth_into.Tie.{close}
+use Rattle.series.proofs.inner.+smooth_into.{statement}
+use Rattle.series.proofs.inner.+smooth_into.Tie.{close}
 
 abbrev μ : Measures 3 kinds.ps ℕ
 μ κs a = a .1 .0
