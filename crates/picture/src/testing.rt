@@ -1,0 +1,44 @@
+// What smoothing a picture answers.
+ghost use mathlib.Core.Path.{_≡_};
+ghost use mathlib.Core.Bool.{_||_};
+ghost use Rattle.meaning.specs.Refusals as R;
+ghost use Rattle.meaning.specs.Calls as C;
+ghost use Rattle.plan.specs.Structs.{stagesOf, answerOf};
+use plan::Answer;
+use plan::Plan;
+
+// Is one of the three slices not of so many cells?
+fn lengths_differ(cells: usize, samples: usize, results: usize, work: usize) -> bool
+    ensures { λ r. ⌜ r ≡ R.differs samples cells || R.differs results cells || R.differs work cells ⌝ }
+{
+    if samples != cells {
+        return true;
+    }
+    plan::inner::lengths_differ(results, cells, work, cells)
+}
+
+// Where row 7 applies the cells are 0, and whether lengths differ from that does not matter.
+pub(crate) fn refusal(
+    across: Plan,
+    down: Plan,
+    bound: u64,
+    width: u64,
+    height: u64,
+    samples: &[i32],
+    results: usize,
+    work: usize,
+) -> Answer
+    ensures { λ r. ⌜ answerOf r ≡ R.firstOf (C.smoothRows (R.pictureOf (stagesOf across) (stagesOf down) width height) bound (now (samples .entry)) results work) ⌝ }
+{
+    let n = samples.len();
+    let cells = plan::inner::picture_cells(width, height);
+    let wrong_length = lengths_differ(cells, n, results, work);
+    let number = plan::inner::picture_refusal(across, down, bound, width, height, wrong_length);
+    if number != 0 {
+        return Answer {
+            number,
+            position: 0,
+        };
+    }
+    plan::inner::sample_refusal(bound, samples, 0, n)
+}
