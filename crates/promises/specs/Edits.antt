@@ -6,7 +6,6 @@
 --   Near c n           index n is within reach of the position
 --   Stored             samples and results; before c and after c are those that a call was given and left
 --   Fresh p x          the results of x are the smoothing of its samples under the plan p;  Within M f  no sample of f has size above M
---   Exactly A B        A exactly where B
 --   edit-lowest        the number is 0, or that of a row that applies, and then the lowest of those
 --   edit-done, edit-allowed   it is 0 exactly where no row applies, and exactly where the bounds hold
 --   edit-place-11, edit-place-12, edit-place-other   at 11 the place is the position, and the old sample above the bound; at 12 it is the first result within reach that is, or would get, too large; else 0
@@ -58,6 +57,7 @@ use Rattle.plan.specs.Structs.{stagesOf, editAnswer}
 use Rattle.edit.specs.Contract.{Gives}
 use Rattle.edit.proofs.edit_series.Reads as edit-series
 use Rattle.edit.proofs.edit_series.Kinds as kinds
+use Rattle.promises.specs.Smoothings.{Exactly}
 
 pub record EditCall : Type 1 where
   pub lifetimes : Lfts 3
@@ -143,9 +143,6 @@ Within M f = (i : ℕ) → i < length f → natAbs (at f i) ≤ M
 
 to-sized : {M : ℕ} {f : List ℤ} → Within M f → Sized M f
 to-sized {f} h = sized f (λ i l. record { bound = h i l })
-
-abbrev pub Exactly : Type 0 → Type 0 → Type 0
-Exactly A B = (A → B) × (B → A)
 
 -- ---- one call
 no-change : (v u : ℤ) → Exactly (v ≡ u) (v -ℤ u ≡ pos 0)

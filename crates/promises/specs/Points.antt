@@ -7,7 +7,7 @@
 --   Near c i           sample i is within reach of the position
 --   result c           the result at the position: the sum over m of K-fold tap m times the extension at n - m
 --   Whole z x          the double x is the whole number z, exactly
---   Exactly, Stored, Fresh   as of Edits;  SmoothCall, call   as of EditLists
+--   Exactly            as of Smoothings;  Stored, Fresh   as of Edits;  SmoothCall, call   as of EditLists
 --   point-case         the enum is its value case exactly where the number is 0, else its refused case
 --   point-lowest       the number is 0, or that of a row that applies, and then the lowest of those
 --   point-done, point-allowed   it is 0 exactly where no row applies, and exactly where the bounds hold
@@ -64,7 +64,8 @@ use Rattle.plan.specs.declared.Point.the-variants.{Value, Refused}
 use Rattle.plan.specs.Structs.{stagesOf, pointAnswer, pointValue, pointOf, pointOf-done, pointOf-refused, pointAnswer-of}
 use Rattle.point.proofs.point.Reads as point
 use Rattle.point.proofs.point.Kinds as kinds
-use Rattle.promises.specs.Edits.{Stored, Fresh, Exactly}
+use Rattle.promises.specs.Smoothings.{Exactly}
+use Rattle.promises.specs.Edits.{Stored, Fresh}
 use Rattle.promises.specs.EditLists.{SmoothCall, call, smoothed, smoothing-fresh}
 
 pub record PointCall : Type 1 where

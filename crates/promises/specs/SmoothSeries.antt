@@ -11,7 +11,7 @@
 --   kernel-over        the K-fold kernel's sum is D^K, with D = (2r+1)b + 2a
 --   one-outcome        two outcomes that the contract allows are the same call
 use Prim.Native.Nat.{ℕ, _+_, _*_, _^_, _≤_, _<_}
-use mathlib.Core.Path.{_≡_, sym, ap, _∙_}
+use mathlib.Core.Path.{_≡_, refl, ap, _∙_}
 use mathlib.Core.List.{List}
 use lib.ListN.{length}
 use lib.IntN.{ℤ, pos, natAbs, _-ℤ_, _*ℤ_}
@@ -24,19 +24,20 @@ use Rattle.meaning.specs.Extension.{at, fold, ext}
 use Rattle.meaning.specs.Kernel.{kernel, width}
 use Rattle.meaning.specs.Smoothing.{convolved, result, results}
 use Rattle.meaning.specs.Refusals as meant
-use Rattle.meaning.specs.Refusals.{Row, firstOf, Applies, rowAt, planRows, sizeRows, seriesOf, zeros}
-use Rattle.meaning.specs.Calls.{smoothRows, smoothed}
+use Rattle.meaning.specs.Refusals.{Row, Applies, seriesOf, zeros}
+use Rattle.meaning.specs.Calls.{smoothRows}
 use Rattle.meaning.specs.Bounds.{AllowedSeries, FirstAt}
 use Rattle.theory.specs.Convolution.{kernel-sum}
 use Rattle.theory.specs.Stages.{divisor-plan}
 use Rattle.theory.specs.Passes.{length-results, at-results}
-use Rattle.theory.specs.Refusals.{Numbered, Rising, first-applies, first-lowest, done-none, none-done, ifDone-done, ifDone-refused}
-use Rattle.theory.specs.Accepted.{series-allowed, allowed-series, series-position, series-no-position}
+use Rattle.theory.specs.AcceptedSmoothings.{series-allowed, allowed-series}
 use Rattle.plan.specs.declared.Plan.{Plan}
 use Rattle.plan.specs.declared.Answer.{Answer}
-use Rattle.plan.specs.Structs.{stagesOf, answerOf}
+use Rattle.plan.specs.Structs.{stagesOf}
 use Rattle.series.proofs.smooth_series.Reads as smooth-series
 use Rattle.series.proofs.smooth_series.Kinds as kinds
+use Rattle.promises.specs.Smoothings as smooth
+use Rattle.promises.specs.Smoothings.{Exactly, done-number, number-done, lowest, place-first, place-other, unchanged, whole, left, same}
 
 -- a call: what it was given, what it answered, what it left
 pub record Call : Type 0 where
@@ -54,14 +55,6 @@ rows c = smoothRows (seriesOf (stagesOf (c .plan)) (length (c .samples))) (c .bo
 
 abbrev pub Allowed : Call → Type 0
 Allowed c = AllowedSeries (stagesOf (c .plan)) (c .bound) (c .samples) (length (c .results)) (length (c .work))
-
-rising : (c : Call) → Rising (rows c)
-unfolding smoothRows planRows sizeRows rowAt
-rising c = tt
-
-numbered : (c : Call) → Numbered (rows c)
-unfolding smoothRows planRows sizeRows rowAt
-numbered c = tt
 
 -- any call of the function, as its contract lets it end
 module _ (κs : Lfts 3) (a : Dens κs kinds.ps) (r : resT kinds.r κs .Denot) (s : AtExit (endedOf 3 kinds.ps kinds.r) κs) where
@@ -81,41 +74,30 @@ module _ (κs : Lfts 3) (a : Dens κs kinds.ps) (r : resT kinds.r κs .Denot) (s
     abbrev number : ℕ
     number = call .answer .number
 
-    answer-is : answerOf (call .answer) ≡ firstOf (rows call)
-    unfolding smoothed
-    answer-is = h .answer
-
-    number-is : number ≡ firstOf (rows call) .number
-    number-is = ap (λ (x : meant.Answer). x .number) answer-is
-
     pub lowest-number : ((number ≡ 0 → ⊥) → Applies number (rows call)) × ((n : ℕ) → Applies n (rows call) → number ≤ n)
-    lowest-number = rw number-is (first-applies (rows call), λ n k. first-lowest (rows call) (rising call) k)
+    lowest-number = lowest _ _ _ _ _ _ h
 
-    pub done-exactly : (number ≡ 0 → (n : ℕ) → Applies n (rows call) → ⊥) × (((n : ℕ) → Applies n (rows call) → ⊥) → number ≡ 0)
-    done-exactly = rw number-is (λ e n k. done-none (rows call) (numbered call) e k, none-done (rows call))
+    pub done-exactly : Exactly (number ≡ 0) ((n : ℕ) → Applies n (rows call) → ⊥)
+    done-exactly = smooth.done-exactly _ _ _ _ _ _ h
 
     pub position-first : number ≡ 11 → FirstAt (length (call .samples)) (λ i. call .bound < natAbs (at (call .samples) i)) (call .answer .position)
-    position-first e = series-position (stagesOf (call .plan)) (call .bound) (call .samples) (length (call .results)) (length (call .work)) answer-is e
+    position-first = place-first _ _ _ _ _ _ h
 
     pub position-other : (number ≡ 11 → ⊥) → call .answer .position ≡ 0
-    position-other h = series-no-position (stagesOf (call .plan)) (call .bound) (call .samples) (length (call .results)) (length (call .work)) answer-is h
+    position-other = place-other _ _ _ _ _ _ h
 
     pub refused-unchanged : (number ≡ 0 → ⊥) → (call .resultsLeft ≡ call .results) × (call .workLeft ≡ call .work)
-    unfolding smoothed
-    refused-unchanged n =
-        let refused : firstOf (rows call) .number ≡ 0 → ⊥ = λ e. n (number-is ∙ e) in
-        (h .results ∙ ifDone-refused _ _ _ refused, h .work ∙ ifDone-refused _ _ _ refused)
+    refused-unchanged = unchanged _ _ _ _ _ _ h
 
     pub done-allowed : number ≡ 0 → Allowed call
-    done-allowed e = series-allowed _ _ _ _ _ (sym number-is ∙ e)
+    done-allowed e = series-allowed _ _ _ _ _ (done-number _ _ _ _ _ _ h e)
 
     pub allowed-done : Allowed call → number ≡ 0
-    allowed-done ok = number-is ∙ ap (λ (x : meant.Answer). x .number) (allowed-series _ _ _ _ _ ok)
+    allowed-done ok = number-done _ _ _ _ _ _ h (ap (λ (x : meant.Answer). x .number) (allowed-series _ _ _ _ _ ok))
 
     module _ (e : number ≡ 0) where
       pub done-whole : call .resultsLeft ≡ results fold (stagesOf (call .plan)) (call .samples)
-      unfolding smoothed
-      done-whole = h .results ∙ ifDone-done _ _ _ (sym number-is ∙ e)
+      done-whole = whole _ _ _ _ _ _ h e
 
       pub done-results : (length (call .resultsLeft) ≡ length (call .samples)) × ((n : ℕ) → n < length (call .samples)
           → at (call .resultsLeft) n ≡ sumWithin (width (stagesOf (call .plan))) (λ m. kernel (stagesOf (call .plan)) m *ℤ ext fold (call .samples) (pos n -ℤ m)))
@@ -123,14 +105,10 @@ module _ (κs : Lfts 3) (a : Dens κs kinds.ps) (r : resT kinds.r κs .Denot) (s
       done-results = rw done-whole (length-results fold (stagesOf (call .plan)) (call .samples), λ n l. at-results fold (stagesOf (call .plan)) (call .samples) n l)
 
       pub done-left : call .workLeft ≡ zeros (call .work)
-      unfolding smoothed
-      done-left = h .work ∙ ifDone-done _ _ _ (sym number-is ∙ e)
+      done-left = left _ _ _ _ _ _ h e
 
 pub kernel-over : (p : Plan) → sumWithin (width (stagesOf p)) (kernel (stagesOf p)) ≡ pos (((2 * p .radius + 1) * p .inner + 2 * p .edge) ^ p .passes)
 kernel-over p = kernel-sum (stagesOf p) ∙ ap pos (divisor-plan (p .radius) (p .inner) (p .edge) (p .passes))
 
 pub one-outcome : (κs : Lfts 3) (a : Dens κs kinds.ps) (r r′ : resT kinds.r κs .Denot) (s s′ : AtExit (endedOf 3 kinds.ps kinds.r) κs) → smooth-series.Learnt κs a r s → smooth-series.Learnt κs a r′ s′ → call κs a r s ≡ call κs a r′ s′
-one-outcome κs a r r′ s s′ g h = rw (ap back (g .answer ∙ sym (h .answer)), g .results ∙ sym (h .results), g .work ∙ sym (h .work))
-  where
-    back : meant.Answer → Answer
-    back x = record { number = x .number; position = x .position }
+one-outcome κs a r r′ s s′ g h = let (x, y, z) = same refl g h in rw (x, y, z)
