@@ -1,15 +1,9 @@
-// Cases of calls 1 and 2: smoothing a series and a picture.
-import { divisorOf } from './smoothing.mjs';
+// Cases of call 1: smoothing a series.
 import {
-  EIGHT, EXACT, EXACT_BOUND, FIVE, LARGE, LARGE_BOUND, LARGEST_I64, LEAST_I32, LEAST_I64, LONG_SERIES, MOST_BOUND, ONE,
-  THREE, WIDE_LIMITS, WIDEST,
-  anyBound, anyPlan, anySamples, anySeries, chance, filled, junk, largestBound, plan, times,
+  EIGHT, LARGE, LARGE_BOUND, LARGEST_I64, LEAST_I32, LEAST_I64, LONG_SERIES, MOST_BOUND, ONE, THREE, WIDE_LIMITS, WIDEST,
+  anyBound, anySamples, anySeries, chance, filled, junk, largestBound, plan, times,
 } from './inputs.mjs';
-import {
-  EMPTY_SERIES, PICTURE_LIMITS, SAMPLE_FAULTS, SERIES_LIMITS, faultCases, lengthFaults,
-} from './faults.mjs';
-
-// Call 1.
+import { EMPTY_SERIES, SAMPLE_FAULTS, SERIES_LIMITS, faultCases, lengthFaults } from './faults.mjs';
 
 function seriesCase(note, chosen, bound, samples, more = {}) {
   const [results, work] = [filled(samples.length, 7), filled(samples.length, -7)];
@@ -113,66 +107,4 @@ function smoothSeriesCases() {
   ];
 }
 
-// Call 2.
-
-function pictureCase(note, [across, down], bound, [width, height], samples, more = {}) {
-  const [results, work] = [filled(samples.length, 7), filled(samples.length, -7)];
-  return { note, args: { across, down, bound, width, height, samples, results, work, ...more } };
-}
-
-const PICTURE_EDGES = [
-  pictureCase('example', [FIVE, FIVE], 1, [2, 2], [1, 0, 0, 0]),
-  pictureCase('one cell', [plan(3, 2, 1, 2), THREE], 9, [1, 1], [-9]),
-  pictureCase('one row', [plan(1, 2, 1, 2), plan(5, 1, 0, 1)], 9, [4, 1], [9, 0, -3, 1]),
-  pictureCase('one column', [plan(5, 1, 0, 1), plan(1, 2, 1, 2)], 9, [1, 4], [9, 0, -3, 1]),
-  pictureCase('across only', [EIGHT, ONE], 9, [3, 2], [9, 0, 0, 0, 0, 1]),
-  pictureCase('down only', [ONE, EIGHT], 9, [3, 2], [9, 0, 0, 0, 0, 1]),
-  pictureCase('radii above both sides', [plan(7, 1, 0, 2), plan(4, 3, 2, 1)], 9, [3, 2], [9, -8, 7, -6, 5, -4]),
-  pictureCase('eight passes each', [plan(0, 2, 1, 8), plan(1, 1, 0, 8)], 20_000, [2, 2], [20_000, -1, 3, 0]),
-  pictureCase('largest radii', [plan(1023, 1, 0, 1), plan(1023, 1, 0, 1)], MOST_BOUND, [3, 3],
-    [MOST_BOUND, -MOST_BOUND, 5, 0, -1, 1, MOST_BOUND, 0, 0]),
-  pictureCase('product 2^53 - 1', EXACT, EXACT_BOUND, [2, 1], [EXACT_BOUND, -EXACT_BOUND]),
-  pictureCase('all at the bound, product 2^53 - 1', EXACT, EXACT_BOUND, [1, 2], filled(2, -EXACT_BOUND)),
-  pictureCase('bound one above product 2^53 - 1', EXACT, EXACT_BOUND + 1, [2, 1], [1, 2]),
-  pictureCase('4096 by 16', [FIVE, EIGHT], 9, [4096, 16], [...filled(30_000, 9), ...filled(35_536, -4)]),
-  pictureCase('1 by 4096', [FIVE, THREE], 9, [1, 4096], [...filled(4_000, 9), ...filled(96, -4)]),
-  pictureCase('4097 by 1', [FIVE, THREE], 9, [4097, 1], filled(4_097, 1)),
-  pictureCase('257 by 256', [FIVE, THREE], 9, [257, 256], filled(65_792, 1)),
-  pictureCase('slices empty, sides good', [FIVE, THREE], 9, [2, 2], []),
-  pictureCase('product of sides is 2^64, slices empty', [FIVE, THREE], 9, [2 ** 32, 2 ** 32], []),
-  pictureCase('across without passes, down with edge as inner', [plan(1, 2, 1, 0), plan(1, 2, 2, 1)], 9, [1, 1], [1]),
-  pictureCase('across with edge as inner, down without passes', [plan(1, 2, 2, 1), plan(1, 2, 1, 0)], 9, [1, 1], [1]),
-  pictureCase('across inner 0, down radius 1024', [plan(1, 0, 0, 1), plan(1024, 2, 1, 1)], 9, [1, 1], [1]),
-];
-
-function pictureFaults() {
-  const samples = [5, -3, 1000, 0, 2, 999];
-  const good = pictureCase('', [EIGHT, FIVE], 1000, [3, 2], samples, { results: [1, 2, 3, 4, 5, LEAST_I64] }).args;
-  return faultCases(2, good, [
-    ...PICTURE_LIMITS,
-    ...lengthFaults('samples'), ...lengthFaults('results'), ...lengthFaults('work'),
-    ...SAMPLE_FAULTS,
-  ]);
-}
-
-function chosenPlans(below, n) {
-  const across = anyPlan(below, 1 + n % 8, 2n ** 40n);
-  const down = anyPlan(below, 1 + below(3), 2n ** 53n / divisorOf(across));
-  return [across, down];
-}
-
-function smoothPictureCases() {
-  const below = chance(102);
-  const chosen = times(40, (n) => {
-    const plans = chosenPlans(below, n);
-    const bound = anyBound(below, ...plans);
-    const [width, height] = [1 + below(4), 1 + below(4)];
-    const cells = width * height;
-    return pictureCase('chosen', plans, bound, [width, height], anySamples(below, cells, bound), {
-      results: junk(below, cells), work: junk(below, cells),
-    });
-  });
-  return [...PICTURE_EDGES, ...pictureFaults(), ...chosen];
-}
-
-export const casesOfSmoothing = { 1: smoothSeriesCases, 2: smoothPictureCases };
+export const casesOfSmoothing = { 1: smoothSeriesCases };

@@ -1,6 +1,7 @@
 // The cases of every call, made the same way each time from a fixed seed: the page's examples, edges, every
 // refusal, every pair of refusals, and chosen inputs. A case is a note and the arguments by name.
 import { casesOfSmoothing } from './cases-smoothing.mjs';
+import { casesOfPictures } from './cases-pictures.mjs';
 import { casesOfEdits } from './cases-edits.mjs';
 import { casesOfPoints } from './cases-points.mjs';
 import { casesOfOutputs } from './cases-outputs.mjs';
@@ -30,7 +31,8 @@ export const NUMBERS_GIVEN = {
 };
 
 const CASES = {
-  ...casesOfSmoothing, ...casesOfEdits, ...casesOfPoints, ...casesOfOutputs, ...casesOfRecords, ...casesOfPlans,
+  ...casesOfSmoothing, ...casesOfPictures, ...casesOfEdits, ...casesOfPoints, ...casesOfOutputs, ...casesOfRecords,
+  ...casesOfPlans,
 };
 
 // The cases of a call: a note and the call's words.

@@ -112,6 +112,16 @@ export function anySamples(below, length, bound) {
   return times(length, () => pick(below, [bound, -bound, 0, below(bound + 1), 0 - below(bound + 1), 1, -1]));
 }
 
+// Many samples, in runs of different lengths.
+export function anyPatches(below, length, bound) {
+  const samples = [];
+  while (samples.length < length) {
+    const run = Math.min(length - samples.length, pick(below, [1, 2, 3, 1 + below(50), 1 + below(500), 1 + below(1000)]));
+    samples.push(...filled(run, anySamples(below, 1, bound)[0]));
+  }
+  return samples;
+}
+
 // A short series, its plan and bound.
 export function anySeries(below, n) {
   const chosen = anyPlan(below, 1 + n % 8);

@@ -41,6 +41,7 @@ fn one_call(samples: &mut [i32], results: &mut [i64], work: &mut [i64], bytes: &
     let mut open = true;
     match input::word(&mut open) {
         1 => smoothing::smooth_series(&mut open, samples, results, work),
+        2 => smoothing::smooth_picture(&mut open, samples, results, work),
         3 => edits::edit_series(&mut open, samples, results, work),
         4 => edits::point(&mut open, samples, work),
         13 => records::read_record(&mut open, bytes),

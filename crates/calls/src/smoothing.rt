@@ -32,3 +32,57 @@ fn smoothed_series(plan: Plan, bound: u64, samples: &[i32], results: &mut [i64],
     output::wholes(work);
     output::end_line();
 }
+
+// Call 2.
+pub(crate) fn smooth_picture(
+    open: &mut bool,
+    samples: &mut [i32],
+    results: &mut [i64],
+    work: &mut [i64],
+) {
+    let across = input::plan(open);
+    let down = input::plan(open);
+    let bound = input::word(open);
+    let width = input::word(open);
+    let height = input::word(open);
+    let n = input::samples(open, samples);
+    let cells = input::wholes(open, results);
+    let spare = input::wholes(open, work);
+    if *open {
+        smoothed_picture(
+            across,
+            down,
+            bound,
+            width,
+            height,
+            &samples[..n],
+            &mut results[..cells],
+            &mut work[..spare],
+        );
+    }
+}
+
+fn smoothed_picture(
+    across: Plan,
+    down: Plan,
+    bound: u64,
+    width: u64,
+    height: u64,
+    samples: &[i32],
+    results: &mut [i64],
+    work: &mut [i64],
+) {
+    output::answer(picture::smooth_picture(
+        across,
+        down,
+        bound,
+        width,
+        height,
+        samples,
+        results,
+        work,
+    ));
+    output::wholes(results);
+    output::wholes(work);
+    output::end_line();
+}
