@@ -13,7 +13,7 @@ ghost use Rattle.series.specs.Ready.{Summable, Passable, Ready, after};
 use plan::Plan;
 
 // Which of len cells the extension has at i.
-pub fn fold_at(i: usize, len: usize) -> usize
+fn fold_at(i: usize, len: usize) -> usize
     requires { ⌜ 1 ≤ len ⌝ }
     requires { ⌜ 2 * len < 2 ^ 64 ⌝ }
     ensures { λ r. ⌜ r ≡ fold len (pos i) ⌝ }
@@ -39,20 +39,20 @@ pub fn fold_behind(n: usize, d: usize, len: usize) -> usize
     }
 }
 
-// The extension of src at i.
-fn ahead(src: &[i64], i: usize) -> i64
-    requires { ⌜ 1 ≤ length (now src) ⌝ }
-    ensures { λ r. ⌜ r ≡ ext fold (now (src .entry)) (pos i) ⌝ }
-{
-    src[fold_at(i, src.len())]
-}
-
 // The extension of src at n - d.
 fn behind(src: &[i64], n: usize, d: usize) -> i64
     requires { ⌜ 1 ≤ length (now src) ⌝ }
     ensures { λ r. ⌜ r ≡ ext fold (now (src .entry)) (pos n -ℤ pos d) ⌝ }
 {
     src[fold_behind(n, d, src.len())]
+}
+
+// The extension of src at i.
+fn ahead(src: &[i64], i: usize) -> i64
+    requires { ⌜ 1 ≤ length (now src) ⌝ }
+    ensures { λ r. ⌜ r ≡ ext fold (now (src .entry)) (pos i) ⌝ }
+{
+    behind(src, i, 0)
 }
 
 // The window around 0, from the centre outward: what stands at -(j + 1) is what stood at j.
