@@ -9,15 +9,23 @@
 --   AllowedPicture hs vs M W H f nr nw   those of smoothing the picture f, with nr results and nw cells of work
 --   AllowedEdit φ ss M p v f r nw   of an edit that sets sample p of f to v, with the stored results r and nw cells of work
 --   AllowedPoint ss M n f nw  of the point at n of the samples f, with nw cells of work
+--   WholeDouble M x           the double x is a whole number of size at most M, with either sign
+--   AllowedDoubles M xs n     of taking the doubles xs in, to n samples
+--   AllowedSeriesOut ss M r n   of putting the results r of a series out, to n cells; a summary asks no cells, and has them right
+--   AllowedPictureOut hs vs M W H r n   of those of a picture
+--   AllowedSigma s K b        of the planner
 --   FirstAt N P i             i is the first of 0 .. N - 1 with the property P
 --   TooLarge φ ss L p d r n   result n is within reach of p, and has a size above L, or would get one where sample p changes by d
 use Prim.Native.Nat.{ℕ, _*_, _≤_, _<_}
 use mathlib.Core.Path.{_≡_}
 use mathlib.Core.Logic.{_⊎_}
+use mathlib.Core.Bool.{Bool}
 use mathlib.Core.List.{List, [], _∷_}
-use lib.ListN.{length}
+use lib.ListN.{length, getD}
 use lib.IntN.{ℤ, pos, natAbs, _+ℤ_, _-ℤ_, _*ℤ_}
-use Rattle.meaning.specs.Limits.{least, maxPasses, maxRadius, maxInner, maxBound, maxResult, maxLength, maxSide}
+use lib.Ieee.{Float, nan}
+use lib.Ieee.Exact.{HasValue}
+use Rattle.meaning.specs.Limits.{least, maxPasses, maxRadius, maxInner, maxBound, maxResult, maxLength, maxSide, maxSigma}
 use Rattle.meaning.specs.Extension.{at, IndexMap}
 use Rattle.meaning.specs.Kernel.{Stage, reach, divisor}
 use Rattle.meaning.specs.Smoothing.{weight, apart}
@@ -84,6 +92,35 @@ pub record AllowedPoint (ss : List Stage) (M n : ℕ) (f : List ℤ) (nw : ℕ) 
   pub work : nw ≡ editRoom ss (length f)
   pub position : n < length f
   pub samples : (i : ℕ) → i < length f → apart i n ≤ reach ss → natAbs (at f i) ≤ M
+
+pub record WholeDouble (M : ℕ) (x : Float) : Type 0 where
+  pub negative : Bool
+  pub size : ℕ
+  pub most : size ≤ M
+  pub is : HasValue x negative size 1
+
+pub record AllowedDoubles (M : ℕ) (xs : List Float) (n : ℕ) : Type 0 where
+  pub bound : (least ≤ M) × (M ≤ maxBound)
+  pub count : (least ≤ length xs) × (length xs ≤ maxLength)
+  pub samples : n ≡ length xs
+  pub doubles : (i : ℕ) → i < length xs → WholeDouble M (getD xs i nan)
+
+pub record AllowedSeriesOut (ss : List Stage) (M : ℕ) (r : List ℤ) (n : ℕ) : Type 0 where
+  pub common : AllowedLength ss M (length r)
+  pub cells : n ≡ length r
+  pub results : (i : ℕ) → i < length r → natAbs (at r i) ≤ M * divisor ss
+
+pub record AllowedPictureOut (hs vs : List Stage) (M W H : ℕ) (r : List ℤ) (n : ℕ) : Type 0 where
+  pub common : AllowedSides hs vs M W H
+  pub count : length r ≡ W * H
+  pub cells : n ≡ W * H
+  pub results : (i : ℕ) → i < length r → natAbs (at r i) ≤ M * (divisor hs * divisor vs)
+
+-- the radius found is never above the largest, so 15 asks nothing more
+pub record AllowedSigma (s K b : ℕ) : Type 0 where
+  pub passes : (least ≤ K) × (K ≤ maxPasses)
+  pub inner : (least ≤ b) × (b ≤ maxInner)
+  pub sigma : (least ≤ s) × (s ≤ maxSigma)
 
 -- ---- positions
 pub record FirstAt (N : ℕ) (P : ℕ → Type 0) (i : ℕ) : Type 0 where

@@ -5,19 +5,21 @@
 use Prim.Native.Nat.{ℕ}
 use Prim.Native.String.{String}
 use mathlib.Core.Path.{_≡_, refl}
-use mathlib.Core.Bool.{false}
+use mathlib.Core.Bool.{true, false}
 use mathlib.Core.List.{List, [], _∷_, _++_, map}
 use lib.ListN.{set}
-use lib.IntN.{ℤ, pos, negℤ}
+use lib.IntN.{ℤ, pos, negsuc, negℤ}
+use lib.Count.{trailingZeros}
+use lib.Ieee.{Float, fin, ofInt, div, toSigned, round, size, units, odd, span, climb}
 use Rattle.algebra.specs.Within.{sumWithin}
 use Rattle.meaning.specs.Extension.{emod, reflect, fold, ext}
 use Rattle.meaning.specs.Kernel.{Stage, plan, tap, passAt, kernel, width, reach, tapSum, divisor}
 use Rattle.meaning.specs.Smoothing.{listOf, convolved, result, results, weight, near}
 use Rattle.meaning.specs.Picture.{pixel, grid, picture}
 use Rattle.meaning.specs.Refusals.{Answer, firstOf, firstWhere, rowAt, some, planRows, sizeRows, commonRows, seriesOf, ifDone, zeros, ownRows, planDivisor, planReach}
-use Rattle.meaning.specs.Values.{nearest, outputRows, converted, wholeSeries}
+use Rattle.meaning.specs.Values.{nearest, ratio, takes, doubleRows, doublesIn, outputRows, converted, unbeaten, summary, wholeSeries, wholePicture, summarySeries}
 use Rattle.meaning.specs.Calls.{smoothRows, smoothed, smoothSeries, smoothPicture, gained, editRows, countWhere, changed, editSeries}
-use Rattle.meaning.specs.Planner.{largest, radiusFor, edgeFor, planFor}
+use Rattle.meaning.specs.Planner.{largest, radiusFor, edgeFor, plannerRows, planFor}
 use Rattle.meaning.specs.Encoding.{bytes, number, text, digits, decimal}
 use Rattle.meaning.specs.Record.{sampleAt, stretch, samplesOf, begins, reading, readRecord}
 use Rattle.meaning.specs.Program.{firstLine, resultLines, report, program}
@@ -33,6 +35,14 @@ data Example : Type 0 where
   planner : ℕ → ℕ → ℕ → ℕ → ℕ → Example
   -- plan, samples; whole output
   whole : List Stage → List ℤ → List ℤ → Example
+  -- bound, doubles, samples; number, position, samples afterwards
+  taken : ℕ → List Float → List ℤ → ℕ → ℕ → List ℤ → Example
+  -- plan, results; lowest and its index, highest and its index
+  summed : List Stage → List ℤ → Float → ℕ → Float → ℕ → Example
+  -- plans across and down, width, height, results; number, position
+  refused : List Stage → List Stage → ℕ → ℕ → List ℤ → ℕ → ℕ → Example
+  -- sigma in hundredths, passes, inner weight; number
+  unplanned : ℕ → ℕ → ℕ → ℕ → Example
   -- plan; divisor
   divided : List Stage → ℕ → Example
   -- plan; reach
@@ -52,6 +62,10 @@ Holds (raster hs vs W H f r) = smoothPicture fold fold hs vs 9 W H f f f ≡ rec
 Holds (edit ss f p v r n) = editSeries fold ss 9 p v f (results fold ss f) (f ++ f) ≡ record { answer = done; count = n; samples = set f p v; results = r; work = zeros (f ++ f) }
 Holds (planner s K b r a) = planFor s K b ≡ record { answer = done; radius = r; edge = a }
 Holds (whole ss f c) = wholeSeries ss 9 (results fold ss f) f ≡ record { answer = done; cells = c }
+Holds (taken M xs f n p g) = doublesIn M xs f ≡ record { answer = record { number = n; position = p }; cells = g }
+Holds (summed ss r l i h j) = summarySeries ss 9 r ≡ record { answer = done; lowest = l; highest = h; lowestAt = i; highestAt = j }
+Holds (refused hs vs W H r n p) = wholePicture hs vs 1 W H r r ≡ record { answer = record { number = n; position = p }; cells = r }
+Holds (unplanned s K b n) = planFor s K b ≡ record { answer = record { number = n; position = 0 }; radius = 0; edge = 0 }
 Holds (divided ss d) = planDivisor ss ≡ d
 Holds (reached ss n) = planReach ss ≡ n
 Holds (bounded ss M n) = firstOf (commonRows (seriesOf ss 1) M false) ≡ record { number = n; position = 0 }
@@ -92,7 +106,7 @@ examples =
     ∷ 0x05 ∷ 0x00 ∷ 0x04 ∷ 0x00 ∷ 0x00 ∷ 0x00 ∷ 0x08
     ∷ 0x06 ∷ 0x00 ∷ 0x0C ∷ 0x00 ∷ 0x00 ∷ 0x00 ∷ 0x08 ∷ 0x00 ∷ 0x00 ∷ 0x00 ∷ 0x00 ∷ 0x00 ∷ 0x00 ∷ 0x00 ∷ 0x00 ∷ [])
     "smooth 0 8 3\n0 32\n1 24\n2 8\n"
-    -- not of the page: without the first three, a picture of one plan, columns read for rows and a reach of r + 1 always would pass
+    -- not of the page: without them a picture of one plan, columns read for rows, a reach of r + 1 always, a fraction taken and the last index of equals would pass
     ∷ raster (plan 0 3 1 1) (plan 1 1 0 1) 2 2 (plus (1 ∷ 0 ∷ 0 ∷ 0 ∷ [])) (plus (8 ∷ 2 ∷ 4 ∷ 1 ∷ []))
     ∷ raster (plan 1 2 1 1) (plan 0 3 1 1) 3 2 (plus (9 ∷ 0 ∷ 0 ∷ 0 ∷ 0 ∷ 1 ∷ [])) (plus (145 ∷ 111 ∷ 40 ∷ 40 ∷ 39 ∷ 25 ∷ []))
     ∷ reached (plan 1 1 0 2) 2
@@ -102,6 +116,13 @@ examples =
     ∷ divided (plan 1 2 2 1) 0
     ∷ divided (plan 1023 255 254 2) 272998935049
     ∷ divided (plan 1023 255 254 3) 0
+    ∷ taken 9 (fin true 0 (pos 0) ∷ fin true 9 (pos 0) ∷ []) (plus (7 ∷ 7 ∷ [])) 0 0 (minus (0 ∷ 9 ∷ []))
+    ∷ taken 9 (fin false 9 (pos 0) ∷ fin false 1 (negsuc 0) ∷ fin false 5 (pos 1) ∷ []) (plus (7 ∷ 7 ∷ 7 ∷ [])) 11 1 (plus (7 ∷ 7 ∷ 7 ∷ []))
+    ∷ summed (plan 1 2 1 1) (pos 4 ∷ negsuc 3 ∷ pos 4 ∷ negsuc 3 ∷ []) (fin true 1 (negsuc 0)) 1 (fin false 1 (negsuc 0)) 0
+    ∷ refused (plan 1 1 0 1) (plan 1 2 1 1) 3 1 (pos 24 ∷ negsuc 24 ∷ pos 25 ∷ []) 12 1
+    ∷ refused (plan 1 1 0 1) (plan 1 2 1 1) 1 1 (pos 24 ∷ pos 24 ∷ []) 8 0
+    ∷ unplanned 25601 3 256 3
+    ∷ unplanned 25601 3 16 13
     ∷ []
 
 infixr 5 _and_
@@ -111,9 +132,9 @@ data Every : List Example → Type 0 where
 
 examples-hold : Every examples
 unfolding examples sumWithin emod reflect fold ext tap passAt kernel width reach tapSum divisor listOf convolved result results weight near pixel grid picture
-    firstOf firstWhere rowAt some planRows sizeRows ifDone ownRows planDivisor planReach nearest outputRows converted smoothRows smoothed gained editRows countWhere changed editSeries
-    largest radiusFor edgeFor planFor bytes number text digits decimal sampleAt stretch samplesOf begins reading readRecord firstLine resultLines report program
+    firstOf firstWhere rowAt some planRows sizeRows ifDone ownRows planDivisor planReach nearest ratio takes doubleRows doublesIn unbeaten summary ofInt div toSigned round size units odd span climb trailingZeros outputRows converted smoothRows smoothed gained editRows countWhere changed editSeries
+    largest radiusFor edgeFor plannerRows planFor bytes number text digits decimal sampleAt stretch samplesOf begins reading readRecord firstLine resultLines report program
 examples-hold =
     refl and refl and refl and refl and refl and refl and refl
     and refl and refl and refl and refl and refl
-    and refl and refl and refl and refl and refl and refl and refl and refl and refl and refl and refl and refl and refl and refl and refl and refl and none
+    and refl and refl and refl and refl and refl and refl and refl and refl and refl and refl and refl and refl and refl and refl and refl and refl and refl and refl and refl and refl and refl and refl and refl and none

@@ -6,7 +6,8 @@
 --   takes M x     the double x is a sample under bound M
 --   Converted     the answer, and the cells afterwards
 --   doublesIn     of bound, doubles, samples; its rows are doubleRows
---   converted g   each result over the divisor, by g: of shape, bound, results, cells; its rows are outputRows
+--   converted g   each result over the divisor, by g: of shape, bound, results, cells; its rows are outputRows, of shape, bound, results and the cells' length
+--   unbeaten beats r      the first index of a result that none beats
 --   lowestIn, highestIn   the first index of the lowest and of the highest of results; 0 of none
 --   summary       of shape, bound, results: a Summary
 --   wholeSeries, doublesSeries, summarySeries      these of a series: of plan, bound, and the slices
@@ -64,20 +65,26 @@ doublesIn M xs f =
     record { answer = a; cells = ifDone a (map (toSigned 31) xs) f }
 
 -- "test 1 to 8, and 12 over all results"
-unfoldable pub outputRows : Shape → ℕ → Bool → List ℤ → List Row
-outputRows s M wrongLength r = commonRows s M wrongLength ++ rowAt 12 (length r) (λ i. above (M * s .divisor) (at r i)) ∷ []
+unfoldable pub outputRows : Shape → ℕ → List ℤ → ℕ → List Row
+outputRows s M r n =
+    commonRows s M (differs (length r) (s .cells) || differs n (s .cells))
+    ++ rowAt 12 (length r) (λ i. above (M * s .divisor) (at r i))
+    ∷ []
 
 unfoldable pub converted : {A : Type 0} → (ℤ → ℕ → A) → Shape → ℕ → List ℤ → List A → Converted A
 converted g s M r cells =
-    let a = firstOf (outputRows s M (differs (length r) (s .cells) || differs (length cells) (s .cells)) r) in
+    let a = firstOf (outputRows s M r (length cells)) in
     record { answer = a; cells = ifDone a (map (λ z. g z (s .divisor)) r) cells }
 
--- "lowest and highest are chosen among the whole results": the first that none is below, that none is above
-unfoldable pub lowestIn : List ℤ → ℕ
-lowestIn r = firstWhere (length r) (λ i. not (some (λ z. ltZ z (at r i)) r))
+-- "lowest and highest are chosen among the whole results", "with the first index of each"
+unfoldable pub unbeaten : (ℤ → ℤ → Bool) → List ℤ → ℕ
+unbeaten beats r = firstWhere (length r) (λ i. not (some (λ z. beats z (at r i)) r))
 
-unfoldable pub highestIn : List ℤ → ℕ
-highestIn r = firstWhere (length r) (λ i. not (some (λ z. ltZ (at r i) z) r))
+abbrev pub lowestIn : List ℤ → ℕ
+lowestIn = unbeaten ltZ
+
+abbrev pub highestIn : List ℤ → ℕ
+highestIn = unbeaten (λ x y. ltZ y x)
 
 pub record Summary : Type 0 where
   pub answer : Answer
@@ -86,10 +93,10 @@ pub record Summary : Type 0 where
   pub lowestAt : ℕ
   pub highestAt : ℕ
 
--- "A refused summary holds plus zero twice and index 0 twice."
+-- "A refused summary holds plus zero twice and index 0 twice." It is lent no cells, so that only the results' length can be wrong.
 unfoldable pub summary : Shape → ℕ → List ℤ → Summary
 summary s M r =
-    let a = firstOf (outputRows s M (differs (length r) (s .cells)) r) in
+    let a = firstOf (outputRows s M r (length r)) in
     record {
       answer = a;
       lowest = ifDone a (ratio (at r (lowestIn r)) (s .divisor)) plusZero;
