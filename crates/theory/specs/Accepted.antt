@@ -1,24 +1,24 @@
 -- The rows of the table of numbers say the bounds: a call is done exactly where they hold.
 -- Laws: plan-rows (rows 1 to 4 of K equal stages, by the plan's numbers); plan-allowed, allowed-plan (rows 1 to 4), stage-allowed, allowed-stages (of K equal stages);
 -- plans-lower, plans-allowed (rows 1 to 4 of two plans);
--- length-allowed, allowed-length (rows 1 to 8 of a series), length-accepted; sides-allowed, allowed-sides (rows 1 to 8 of a picture);
+-- length-allowed, allowed-length (rows 1 to 8 of a series), length-tested (from their answer), length-accepted; sides-allowed, allowed-sides, sides-tested, sides-accepted (those of a picture);
 -- inner-allowed, divisor-allowed; accepted-divisor, accepted-reach, divisor-accepted, no-divisor, no-reach (a plan's own numbers).
 use mathlib.Core.Path.{_≡_, refl, sym, _∙_, ap}
 use mathlib.Core.Bool.{Bool, false, _||_}
 use mathlib.Core.List.{List, [], _∷_}
-use Prim.Native.Nat.{ℕ, zero, suc, _*_, _<_}
-use native.Mathlib.Nat.{mul-le-mul-right}
+use Prim.Native.Nat.{ℕ, zero, suc, _*_, _≤_, _<_}
+use native.Mathlib.Nat.{mul-le-mul-left, mul-le-mul-right}
 use native.Mathlib.Decide.{ℕ-discrete}
 use native.Mathlib.Omega.{arith}
 use lib.Dec.{leb, ltb}
 use lib.ListN.{length, replicate, length-replicate}
 use borrow.Author.Tests.{ltb-false, leb-false, le-ltb, lt-leb}
-use Rattle.meaning.specs.Limits.{least, maxPasses, maxRadius, maxInner, maxLength, maxSide}
+use Rattle.meaning.specs.Limits.{least, maxPasses, maxRadius, maxInner, maxResult, maxLength, maxSide}
 use Rattle.meaning.specs.Kernel.{Stage, plan, reach, divisor}
 use Rattle.meaning.specs.Refusals.{Answer, _when_, firstOf, some, outside, seriesOf, pictureOf, planRows, sizeRows, commonRows, ownRows, planDivisor, planReach}
 use Rattle.meaning.specs.Bounds.{AllowedStage, AllowedStages, AllowedPlan, AcceptedPlan, AllowedLength, AllowedSides}
 use Rattle.theory.specs.Stages.{PositiveInner, none, _and_, divisor-positive}
-use Rattle.theory.specs.Refusals.{Off, Numbered, Lower, done-off, off-done, off-append, append-off, off-more, more-off, two-lower, ifDone-done, ifDone-refused}
+use Rattle.theory.specs.Refusals.{Off, Numbered, Lower, done-off, off-done, off-append, append-off, off-more, more-off, two-lower, number-zero, common-numbered, ifDone-done, ifDone-refused}
 use Rattle.theory.specs.Tests.{some-one, some-replicate, or-no, no-or, outside-no, no-outside}
 
 number-of : {a b : Answer} → a ≡ b → a .number ≡ b .number
@@ -122,6 +122,9 @@ module _ (ss : List Stage) (M N : ℕ) {wrong : Bool} where
   unfolding sizeRows
   allowed-length ok e = off-append (planRows (ss ∷ [])) _ (allowed-plan ss (ok .plan)) (no-outside (ok .bound .0) (ok .bound .1), (le-ltb _ _ (ok .product), (no-outside (ok .count .0) (ok .count .1), (e, tt))))
 
+pub length-tested : (ss : List Stage) (M N : ℕ) (wrong : Bool) {a : Answer} → a ≡ firstOf (commonRows (seriesOf ss N) M wrong) → a .number ≡ 0 → AllowedLength ss M N
+length-tested ss M N wrong e z = length-allowed ss M N (done-off _ (common-numbered (seriesOf ss N) M wrong) (number-zero e z)) .0
+
 -- a plan that is accepted under this bound
 pub length-accepted : {ss : List Stage} {M N : ℕ} → AllowedLength ss M N → AcceptedPlan ss
 length-accepted {ss} ok = record { plan = ok .plan; divides = omega (arith, ok .product, mul-le-mul-right (divisor ss) (ok .bound .0)) }
@@ -153,6 +156,9 @@ module _ (hs vs : List Stage) (M W H : ℕ) {wrong : Bool} where
       let sides = no-or (no-or (no-outside (ok .width .0) (ok .width .1)) (no-outside (ok .height .0) (ok .height .1))) (le-ltb _ _ (ok .cells)) in
       off-append (planRows (hs ∷ vs ∷ [])) _ (allowed-plans hs vs (ok .across) (ok .down)) (no-outside (ok .bound .0) (ok .bound .1), (le-ltb _ _ (ok .product), (sides, (e, tt))))
 
+pub sides-tested : (hs vs : List Stage) (M W H : ℕ) (wrong : Bool) {a : Answer} → a ≡ firstOf (commonRows (pictureOf hs vs W H) M wrong) → a .number ≡ 0 → AllowedSides hs vs M W H
+sides-tested hs vs M W H wrong e z = sides-allowed hs vs M W H (done-off _ (common-numbered (pictureOf hs vs W H) M wrong) (number-zero e z)) .0
+
 -- ---- a plan's own numbers
 pub inner-allowed : (ss : List Stage) → AllowedStages ss → PositiveInner ss
 inner-allowed [] ok = none
@@ -160,6 +166,13 @@ inner-allowed (s ∷ ss) ok = ok .0 .inner .0 and inner-allowed ss (ok .1)
 
 pub divisor-allowed : (ss : List Stage) → AllowedStages ss → 0 < divisor ss
 divisor-allowed ss ok = divisor-positive (inner-allowed ss ok)
+
+pub sides-accepted : {hs vs : List Stage} {M W H : ℕ} → AllowedSides hs vs M W H → AcceptedPlan hs × AcceptedPlan vs
+sides-accepted {hs} {vs} ok =
+    let both : divisor hs * divisor vs ≤ maxResult = omega (arith, ok .product, mul-le-mul-right (divisor hs * divisor vs) (ok .bound .0)) in (
+      record { plan = ok .across; divides = omega (arith, both, mul-le-mul-left (divisor hs) (divisor-allowed vs (ok .down .stages))) },
+      record { plan = ok .down; divides = omega (arith, both, mul-le-mul-right (divisor vs) (divisor-allowed hs (ok .across .stages))) },
+    )
 
 module _ (ss : List Stage) where
   own-numbered : Numbered (ownRows ss)

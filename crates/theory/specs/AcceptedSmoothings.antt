@@ -3,20 +3,20 @@
 -- Laws: smooth-rising, smooth-numbered; smooth-lent, lent-smooth (rows 1 to 8, and what is lent); smooth-position (at 11), smooth-no-position (else);
 -- series-allowed, allowed-series; picture-allowed, allowed-picture.
 use mathlib.Core.Path.{_≡_, refl}
-use mathlib.Core.Bool.{Bool, true, false, _||_}
-use mathlib.Core.List.{List, [], _∷_}
+use mathlib.Core.Bool.{Bool, false, _||_}
+use mathlib.Core.List.{List}
 use Prim.Native.Nat.{ℕ, _≤_, _<_}
 use native.Mathlib.Omega.{arith}
 use lib.ListN.{length}
 use lib.IntN.{ℤ, natAbs}
-use borrow.Author.Tests.{ltb-true, ltb-false, lt-ltb, le-ltb}
+use borrow.Author.Tests.{ltb-false, le-ltb}
 use Rattle.meaning.specs.Extension.{at}
 use Rattle.meaning.specs.Kernel.{Stage}
-use Rattle.meaning.specs.Refusals.{Answer, Row, firstOf, rowAt, differs, Shape, seriesOf, pictureOf, planRows, sizeRows, commonRows}
-use Rattle.meaning.specs.Calls.{sampleRow, smoothRows}
+use Rattle.meaning.specs.Refusals.{Answer, Row, firstOf, rowAt, differs, above, Shape, seriesOf, pictureOf, planRows, sizeRows, commonRows}
+use Rattle.meaning.specs.Calls.{smoothRows}
 use Rattle.meaning.specs.Bounds.{AllowedSeries, AllowedPicture, FirstAt}
-use Rattle.theory.specs.Refusals.{done, Off, Numbered, Rising, Unplaced, done-off, off-done, off-append, append-off}
-use Rattle.theory.specs.Places.{rowAt-off, rowAt-none, place-here, place-other, first-map}
+use Rattle.theory.specs.Refusals.{done, Off, Numbered, Rising, Unplaced, done-off, off-done}
+use Rattle.theory.specs.ShapeRows.{shape-off, off-shape, shape-position, shape-no-position}
 use Rattle.theory.specs.Tests.{or-no, no-or, differs-no, no-differs}
 use Rattle.theory.specs.Accepted.{length-allowed, allowed-length, sides-allowed, allowed-sides}
 
@@ -33,6 +33,9 @@ module _ (s : Shape) (M : ℕ) (f : List ℤ) (nr nw : ℕ) where
   abbrev common : List Row
   common = commonRows s M wrong
 
+  abbrev large : ℕ → Bool
+  large i = above M (at f i)
+
   abbrev rows : List Row
   rows = smoothRows s M f nr nw
 
@@ -48,34 +51,27 @@ module _ (s : Shape) (M : ℕ) (f : List ℤ) (nr nw : ℕ) where
   unfolding planRows sizeRows
   common-unplaced = tt
 
-  -- row 8 off says that no length is wrong
-  eighth : Off common → wrong ≡ false
-  unfolding sizeRows
-  eighth h = append-off (planRows (s .plans)) _ h .1 .1 .1 .1 .0
-
   pub smooth-lent : firstOf rows .number ≡ 0 → Off (commonRows s M false) × Lent s M f nr nw
   unfolding smoothRows
   smooth-lent e =
-      let (h, t) = append-off common (sampleRow M f (λ i. true) ∷ []) (done-off rows smooth-numbered e) in
-      let w = eighth h in
+      let (h, w, t) = shape-off s M wrong 11 (length f) large (done-off rows smooth-numbered e) in
       let (both, c) = or-no (differs (length f) (s .cells) || differs nr (s .cells)) (differs nw (s .cells)) w in
       let (a, b) = or-no (differs (length f) (s .cells)) (differs nr (s .cells)) both in
-      (rw w at h, record { count = differs-no _ _ a; results = differs-no _ _ b; work = differs-no _ _ c; samples = λ i l. ltb-false _ _ (rowAt-none 11 (length f) _ (t .0) i l) })
+      (h, record { count = differs-no _ _ a; results = differs-no _ _ b; work = differs-no _ _ c; samples = λ i l. ltb-false _ _ (t i l) })
 
   pub lent-smooth : Off (commonRows s M false) → Lent s M f nr nw → firstOf rows ≡ done
   unfolding smoothRows
   lent-smooth h ok =
-      let w : wrong ≡ false = no-or (no-or (no-differs (ok .count)) (no-differs (ok .results))) (no-differs (ok .work)) in
-      off-done rows (off-append common _ (rw w h) (rowAt-off 11 (length f) (λ i l. le-ltb _ _ (ok .samples i l)), tt))
+      off-done rows (off-shape s M wrong 11 (length f) large h (no-or (no-or (no-differs (ok .count)) (no-differs (ok .results))) (no-differs (ok .work))) (λ i l. le-ltb _ _ (ok .samples i l)))
 
   module _ {x : Answer} (e : x ≡ firstOf rows) where
     pub smooth-position : x .number ≡ 11 → FirstAt (length f) (λ i. M < natAbs (at f i)) (x .position)
     unfolding smoothRows
-    smooth-position h = first-map (λ i l k. ltb-true _ _ k) (λ i l k. lt-ltb _ _ k) (place-here 11 (length f) common common-unplaced _ (omega arith) e h)
+    smooth-position h = shape-position s M wrong 11 common-unplaced (omega arith) M f e h
 
     pub smooth-no-position : (x .number ≡ 11 → ⊥) → x .position ≡ 0
     unfolding smoothRows
-    smooth-no-position h = place-other 11 (length f) common common-unplaced _ (omega arith) e h
+    smooth-no-position h = shape-no-position s M wrong 11 common-unplaced (omega arith) M f e h
 
 -- ---- a series
 module _ (ss : List Stage) (M : ℕ) (f : List ℤ) (nr nw : ℕ) where

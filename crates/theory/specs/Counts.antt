@@ -8,13 +8,14 @@ use Prim.Native.Nat.{ℕ, zero, suc, _+_, _-_, _≤_, _<_, min}
 use native.Mathlib.Decide.{decLe, decLt}
 use native.Mathlib.Omega.{arith}
 use lib.ListN.{length}
-use lib.IntN.{ℤ, pos, negsuc}
-use lib.Signed.{_≤ℤ_, ltZ, ltZ-no}
+use lib.IntN.{ℤ}
+use lib.Signed.{ltZ, ≤ℤ-refl}
 use borrow.Author.Tests.{le-leb, lt-leb, lt-ltb, le-ltb}
 use Rattle.algebra.specs.Order.{≤ℤ-antisym}
 use Rattle.meaning.specs.Extension.{at}
 use Rattle.meaning.specs.Refusals.{within}
 use Rattle.meaning.specs.Calls.{countWhere, changed}
+use Rattle.theory.specs.Tests.{ltZ-false, le-ltZ}
 
 pub count-ext : (N : ℕ) {t u : ℕ → Bool} → ((i : ℕ) → i < N → t i ≡ u i) → countWhere N t ≡ countWhere N u
 unfolding countWhere
@@ -37,23 +38,16 @@ count-within lo hi (suc N) = go (count-within lo hi N) (decLe lo N) (decLt N hi)
     go ih (no a) b = rw (lt-leb lo N (omega arith)) (omega arith)
 
 -- ---- results that changed
-not-less : {a b : ℤ} → ltZ a b ≡ false → b ≤ℤ a
-not-less {a} {b} e = ltZ-no (rw e tt)
-
-self : (a : ℤ) → ltZ a a ≡ false
-self (pos n) = le-ltb n n (omega arith)
-self (negsuc n) = le-ltb n n (omega arith)
-
 unlike : (a b : ℤ) → b ≢ a → (ltZ a b || ltZ b a) ≡ true
 unlike a b h = go (ltZ a b) (ltZ b a) refl refl
   where
     go : (x y : Bool) → ltZ a b ≡ x → ltZ b a ≡ y → (x || y) ≡ true
     go true y e f = refl
     go false true e f = refl
-    go false false e f = absurd (h (≤ℤ-antisym (not-less e) (not-less f)))
+    go false false e f = absurd (h (≤ℤ-antisym (ltZ-false a b e) (ltZ-false b a f)))
 
 alike : (a b : ℤ) → b ≡ a → (ltZ a b || ltZ b a) ≡ false
-alike a b e = rw e (rw (self a) refl)
+alike a b e = rw e (rw (le-ltZ a a (≤ℤ-refl a)) refl)
 
 pub changed-where : (r new : List ℤ) (t : ℕ → Bool) → ((n : ℕ) → n < length r → t n ≡ true → at new n ≢ at r n) → ((n : ℕ) → n < length r → t n ≡ false → at new n ≡ at r n) → changed r new ≡ countWhere (length r) t
 unfolding changed

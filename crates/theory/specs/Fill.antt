@@ -1,26 +1,23 @@
 -- A loop that writes a list towards a list t of the same length: from the front, or from some place on.
 --   Filled t r d n   d is r with the elements of t up to n
--- Laws: fill-at (what is written), fill-next (one element more), fill-part (k of them more), fill-done (all of them);
+-- Laws: fill-at (what is written), fill-next (one element more), fill-part (k of them more), fill-done (all of them); getD-map, map-next, map-done (towards g of each element of r);
 -- filled-start, filled-next, filled-done (where t differs from r only in the places that are written).
-use Prim.Native.Nat.{ℕ, _+_, _≤_, _<_}
+use Prim.Native.Nat.{ℕ, zero, suc, _+_, _≤_, _<_}
 use mathlib.Core.Path.{_≡_, refl, sym, _∙_, ap}
-use mathlib.Core.List.{List, _++_}
+use mathlib.Core.List.{List, [], _∷_, _++_, map}
 use native.Mathlib.Decide.{ℕ-discrete, decLt}
 use native.Mathlib.Numerals.{add-one}
 use native.Mathlib.Omega.{arith}
-use lib.ListN.{length, take, drop, set, length-set}
+use lib.ListN.{length, take, drop, set, getD, length-set, length-map}
 use lib.Seq.{getD-take, take-suc, take-suc-set, take-at, take-add, take-all, length-take-le, take-append-add, ext-getD, getD-set-same, getD-set-other}
 use lib.IntN.{ℤ, pos}
 use Rattle.meaning.specs.Extension.{at}
 
-module _ (t d : List ℤ) (n : ℕ) (e : take n d ≡ take n t) where
-  pub fill-at : (i : ℕ) → i < n → at d i ≡ at t i
-  fill-at i l = sym (getD-take n d i (pos 0) l) ∙ ap (λ (f : List ℤ). at f i) e ∙ getD-take n t i (pos 0) l
+module _ {A : Type 0} (t d : List A) (n : ℕ) (e : take n d ≡ take n t) where
+  next : (x v : A) → n < length d → n < length t → v ≡ getD t n x → take (n + 1) (set d n v) ≡ take (n + 1) t
+  next x v l m h = rw (add-one n, take-suc-set d n v l, take-suc t n x m, e, h)
 
-  pub fill-next : (v : ℤ) → n < length d → n < length t → v ≡ at t n → take (n + 1) (set d n v) ≡ take (n + 1) t
-  fill-next v l m h = rw (add-one n, take-suc-set d n v l, take-suc t n (pos 0) m, e, h)
-
-  pub fill-part : (part rest : List ℤ) {k : ℕ} → n ≤ length d → length part ≡ k → part ≡ take k (drop n t) → take (n + k) (take n d ++ (part ++ rest)) ≡ take (n + k) t
+  pub fill-part : (part rest : List A) {k : ℕ} → n ≤ length d → length part ≡ k → part ≡ take k (drop n t) → take (n + k) (take n d ++ (part ++ rest)) ≡ take (n + k) t
   fill-part part rest {k} l m h =
       ap (λ i. take (i + k) (take n d ++ (part ++ rest))) (sym (length-take-le n d l))
       ∙ take-append-add (take n d) (part ++ rest) k
@@ -29,6 +26,27 @@ module _ (t d : List ℤ) (n : ℕ) (e : take n d ≡ take n t) where
   pub fill-done : length d ≤ n → length t ≤ n → d ≡ t
   fill-done l m = sym (take-all n d l) ∙ e ∙ take-all n t m
 
+module _ (t d : List ℤ) (n : ℕ) (e : take n d ≡ take n t) where
+  pub fill-at : (i : ℕ) → i < n → at d i ≡ at t i
+  fill-at i l = sym (getD-take n d i (pos 0) l) ∙ ap (λ (f : List ℤ). at f i) e ∙ getD-take n t i (pos 0) l
+
+  pub fill-next : (v : ℤ) → n < length d → n < length t → v ≡ at t n → take (n + 1) (set d n v) ≡ take (n + 1) t
+  fill-next = next t d n e (pos 0)
+
+-- ---- towards g of each element
+pub getD-map : {A B : Type 0} (g : A → B) (r : List A) (n : ℕ) (x : A) (y : B) → n < length r → getD (map g r) n y ≡ g (getD r n x)
+getD-map g [] n x y l = absurd (omega arith)
+getD-map g (z ∷ r) zero x y l = refl
+getD-map g (z ∷ r) (suc n) x y l = getD-map g r n x y (omega arith)
+
+module _ {A B : Type 0} (g : A → B) (r : List A) (d : List B) (n : ℕ) (e : take n d ≡ take n (map g r)) where
+  pub map-next : (x : A) (v : B) → n < length d → n < length r → v ≡ g (getD r n x) → take (n + 1) (set d n v) ≡ take (n + 1) (map g r)
+  map-next x v l m h = next (map g r) d n e v v l (rw (length-map r g) m) (h ∙ sym (getD-map g r n x v m))
+
+  pub map-done : length d ≡ length r → length r ≤ n → d ≡ map g r
+  map-done k l = fill-done (map g r) d n e (omega arith) (rw (length-map r g) l)
+
+-- ---- from some place on
 pub record Filled (t r d : List ℤ) (n : ℕ) : Type 0 where
   pub same : length d ≡ length r
   pub front : (i : ℕ) → i < n → at d i ≡ at t i

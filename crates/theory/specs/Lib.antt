@@ -20,18 +20,25 @@
 --   Picture      rows first or columns first
 --   Refusals     which row answers, and what an answer of 0 says
 --   Places       the first place where a test is true
+--   ShapeRows    rows 1 to 8 of any shape, and one row more
 --   Counts       at how many places a test is true, and how many results changed
 --   Edits        what an edit makes of results, and how many change
+--   Nearest      a quotient to the nearest whole number
+--   Extremes     the first of the lowest, and of the highest
 --   Values       a result over the divisor
+--   Doubles      doubles that are whole, and what they are cut to
 --   Encoding     numbers as bytes and as text
 --   Records      the job record: what is written is read, what is read as done was written
 --   Accepted     a call is done exactly where the bounds hold
 --   Placed       rows 1 to 9 of a call with a place, and what follows them
 --   AcceptedSmoothings   a smoothing, of a series or a picture, is done exactly where its bounds hold
+--   AcceptedOutputs   so is an output, of a series or a picture
 --   AcceptedEdits, AcceptedPoints   so are an edit and a point
+--   AcceptedDoubles      and doubles in
 --   Stored       what an edit leaves of a stored smoothing
 --   Farthest     how far an accepted plan reaches at most
 --   Programs     what the program prints
+--   Planner      the planner's rule
 -- A law over an index map φ takes `F : Folding φ`, and where it speaks of reach `C : Nearness φ`: for document 01, half-sample and half-sample-near.
 pub mod Folding
 pub mod HalfSample
@@ -54,16 +61,23 @@ pub mod Images
 pub mod Picture
 pub mod Refusals
 pub mod Places
+pub mod ShapeRows
 pub mod Counts
 pub mod Edits
+pub mod Nearest
+pub mod Extremes
 pub mod Values
+pub mod Doubles
 pub mod Encoding
 pub mod Records
 pub mod Accepted
 pub mod AcceptedSmoothings
+pub mod AcceptedOutputs
 pub mod Placed
 pub mod AcceptedEdits
 pub mod AcceptedPoints
+pub mod AcceptedDoubles
 pub mod Stored
 pub mod Farthest
 pub mod Programs
+pub mod Planner

@@ -10,7 +10,7 @@ use borrow.Author.Tests.{leb-false, lt-leb}
 use Rattle.meaning.specs.Kernel.{Stage}
 use Rattle.meaning.specs.Refusals.{Answer, Row, _when_, firstOf, seriesOf, planRows, sizeRows, commonRows}
 use Rattle.meaning.specs.Bounds.{AllowedLength}
-use Rattle.theory.specs.Refusals.{Off, Numbered, done-off, off-append, append-off, refused-first, done-rest}
+use Rattle.theory.specs.Refusals.{Off, Numbered, done-off, number-zero, off-append, append-off, refused-first, done-rest}
 use Rattle.theory.specs.Accepted.{length-allowed, allowed-length}
 
 abbrev pub placedRows : List Stage → ℕ → ℕ → Bool → ℕ → List Row
@@ -32,7 +32,7 @@ module _ (ss : List Stage) (M N : ℕ) (wrong : Bool) (p : ℕ) where
 
 module _ (ss : List Stage) (M N : ℕ) (wrong : Bool) (p : ℕ) {a : Answer} (e : a ≡ firstOf (placedRows ss M N wrong p)) where
   pub placed-allowed : a .number ≡ 0 → AllowedLength ss M N × (wrong ≡ false) × (p < N)
-  placed-allowed z = off-placed ss M N wrong p (done-off (placedRows ss M N wrong p) (numbered ss M N wrong p) (sym (ap (λ (x : Answer). x .number) e) ∙ z))
+  placed-allowed z = off-placed ss M N wrong p (done-off (placedRows ss M N wrong p) (numbered ss M N wrong p) (number-zero e z))
 
   module _ {asked : Bool} (w : wrong ≡ asked) (rest : List Row) where
     split : commonRows (seriesOf ss N) M asked ++ (9 when leb N p) ∷ rest ≡ placedRows ss M N asked p ++ rest

@@ -1,8 +1,9 @@
 -- The first place where a test is true, and the row that answers with it.
 --   picked start end t   the test t, from start up to end alone
 --   Clear t i            t is false before i
--- Laws: rowAt-ext, rowAt-off, rowAt-none, rowAt-answer; place-here, place-other (of rows whose last one alone has a position);
--- first-map (the first place by what the test means); walk-start, walk-next, walk-found, walk-done (a loop from start up to end that answers where t is true).
+-- Laws: firstWhere-is (by what holds at the place and before it); rowAt-ext, rowAt-off, rowAt-none, rowAt-answer; place-here, place-other (of rows whose last one alone has a position);
+-- first-map (the first place by what the test means); walk-start, walk-next, walk-found, walk-done (a loop from start up to end that answers where t is true);
+-- all-start, all-next, all-found, all-done (the same of a loop over all places).
 use mathlib.Core.Path.{_≡_, refl, sym, _∙_, ap}
 use mathlib.Core.Logic.{_⊎_, inl, inr, ⊎-elim}
 use mathlib.Core.Bool.{Bool, true, false, cond, _&&_, and-false, true≢false}
@@ -27,7 +28,7 @@ unfolding firstWhere
 firstWhere-none zero e = refl
 firstWhere-none (suc N) {t} e = rw (e 0 (omega arith)) (ap suc (firstWhere-none N (λ i l. e (suc i) (omega arith))))
 
-firstWhere-is : (N i : ℕ) {t : ℕ → Bool} → i < N → t i ≡ true → ((j : ℕ) → j < i → t j ≡ false) → firstWhere N t ≡ i
+pub firstWhere-is : (N i : ℕ) {t : ℕ → Bool} → i < N → t i ≡ true → ((j : ℕ) → j < i → t j ≡ false) → firstWhere N t ≡ i
 unfolding firstWhere
 firstWhere-is zero i l h e = absurd (omega arith)
 firstWhere-is (suc N) zero l h e = rw h
@@ -55,8 +56,8 @@ firstWhere-at (suc N) t l = go (t 0) refl (firstWhere-at N (λ i. t (suc i))) l
 abbrev pub Clear : (ℕ → Bool) → ℕ → Type 0
 Clear t i = (j : ℕ) → j < i → t j ≡ false
 
-clear-next : {t : ℕ → Bool} {i : ℕ} → Clear t i → t i ≡ false → Clear t (i + 1)
-clear-next {t} {i} h e j l = go (decLt j i)
+pub all-next : {t : ℕ → Bool} {i : ℕ} → Clear t i → t i ≡ false → Clear t (i + 1)
+all-next {t} {i} h e j l = go (decLt j i)
   where
     go : Dec (j < i) → t j ≡ false
     go (yes m) = h j m
@@ -104,6 +105,17 @@ module _ (n N : ℕ) where
 pub first-map : {N : ℕ} {P Q : ℕ → Type 0} {i : ℕ} → ((j : ℕ) → j < N → P j → Q j) → ((j : ℕ) → j < N → Q j → P j) → FirstAt N P i → FirstAt N Q i
 first-map to from h = record { within = h .within; here = to _ (h .within) (h .here); before = λ j l k. h .before j l (from j (omega arith) k) }
 
+-- ---- a loop over all places
+module _ (n N : ℕ) (t : ℕ → Bool) where
+  pub all-start : Clear t 0
+  all-start j l = absurd (omega arith)
+
+  pub all-found : (i : ℕ) → i < N → t i ≡ true → Clear t i → record { number = n; position = i } ≡ firstOf (rowAt n N t ∷ [])
+  all-found i l e h = sym (rowAt-on n N i {t = t} l e h [])
+
+  pub all-done : (i : ℕ) → N ≤ i → Clear t i → done ≡ firstOf (rowAt n N t ∷ [])
+  all-done i l h = sym (off-done _ (rowAt-off n N {t = t} (λ j m. h j (omega arith)), tt))
+
 -- ---- a loop over some of the places
 abbrev pub picked : ℕ → ℕ → (ℕ → Bool) → ℕ → Bool
 picked start end t i = within start end i && t i
@@ -113,7 +125,7 @@ module _ (start end : ℕ) (t : ℕ → Bool) where
   walk-start j l = rw (within-before start end j l)
 
   pub walk-next : {i : ℕ} → Clear (picked start end t) i → t i ≡ false → Clear (picked start end t) (i + 1)
-  walk-next {i} h e = clear-next {t = picked start end t} h (rw e (and-false (within start end i)))
+  walk-next {i} h e = all-next {t = picked start end t} h (rw e (and-false (within start end i)))
 
   pub walk-found : (n N i : ℕ) → start ≤ i → i < end → end ≤ N → t i ≡ true → Clear (picked start end t) i → record { number = n; position = i } ≡ firstOf (rowAt n N (picked start end t) ∷ [])
   walk-found n N i l m k e h = sym (rowAt-on n N i {t = picked start end t} (omega arith) (rw (within-yes start end i l m, e)) h [])

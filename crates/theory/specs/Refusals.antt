@@ -8,7 +8,7 @@
 --   Lower a b c       c is that of a and b with the lower number, where 0 is none
 -- Laws: first-on, first-off (the first row applies, or not), first-applies (the answer is that of a row that applies), first-lowest (where the numbers rise, of the lowest);
 -- first-parts (the answer is that of rows without position, or that of the rest), first-unplaced;
--- done-off, off-done, done-none, none-done (it is 0 exactly where none applies); off-append, append-off; refused-first, done-rest (rows in two parts);
+-- done-off, off-done, done-none, none-done (it is 0 exactly where none applies); number-lowest, number-none (of a call that answers that number); number-zero (of two answers that are the same); off-append, append-off; refused-first, done-rest (rows in two parts);
 -- off-more, more-off (the same tests of one thing more), two-lower (of two things, by the rows of each);
 -- ifDone-done, ifDone-refused, ifDone-ext; plan-numbered, common-numbered, common-size (where row 7 applies, row 8 does not matter).
 use mathlib.Core.Path.{_≡_, refl, sym, _∙_, ap}
@@ -125,6 +125,9 @@ pub first-unplaced : (m : ℕ) (rows : List Row) → Unplaced m rows → firstOf
 unfolding firstOf
 first-unplaced m rows t = ⊎-elim (λ p. p .1) (λ p. ap (λ (x : Answer). x .position) (p .1)) (first-parts m rows [] t (ap firstOf (sym (append-nil rows))))
 
+pub number-zero : {a b : Answer} → a ≡ b → a .number ≡ 0 → b .number ≡ 0
+number-zero e z = sym (ap (λ (x : Answer). x .number) e) ∙ z
+
 -- ---- done exactly where no row applies
 off-none : (rows : List Row) {n : ℕ} → Off rows → Applies n rows → ⊥
 off-none (row ∷ rows) h (here e k) = true≢false (sym k ∙ h .0)
@@ -139,6 +142,14 @@ none-done rows h = go (ℕ-discrete (firstOf rows .number) 0)
     go : Dec (firstOf rows .number ≡ 0) → firstOf rows .number ≡ 0
     go (yes e) = e
     go (no e) = absurd (h _ (first-applies rows e))
+
+-- a call that answers the number n
+module _ (rows : List Row) {n : ℕ} (e : n ≡ firstOf rows .number) where
+  pub number-lowest : Rising rows → ((n ≡ 0 → ⊥) → Applies n rows) × ((m : ℕ) → Applies m rows → n ≤ m)
+  number-lowest t = rw e (first-applies rows, λ m k. first-lowest rows t k)
+
+  pub number-none : Numbered rows → (n ≡ 0 → (m : ℕ) → Applies m rows → ⊥) × (((m : ℕ) → Applies m rows → ⊥) → n ≡ 0)
+  number-none t = rw e (λ z m k. done-none rows t z k, none-done rows)
 
 -- ---- rows in two parts
 pub off-append : (rows more : List Row) → Off rows → Off more → Off (rows ++ more)

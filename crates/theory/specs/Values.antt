@@ -1,14 +1,15 @@
 -- Values of results.
--- Laws: whole-exact (the double of a whole number up to the largest result is that number), ratio-zero (0 over a divisor is plus zero).
+-- Laws: whole-held (a cast makes a whole number up to the largest result a double), count-exact, whole-exact (which is that number), ratio-zero (0 over a divisor is plus zero).
 use mathlib.Core.Path.{_≡_, sym, ap, subst, _∙_}
 use mathlib.Core.Bool.{Bool, true, false, cond, true≢false}
-use Prim.Native.Nat.{ℕ, suc, _*_, _≤_, _<_}
+use Prim.Native.Nat.{ℕ, suc, _*_, _^_, _≤_, _<_}
 use native.Mathlib.Omega.{arith}
 use native.Mathlib.Nat.{zero-mul, mul-pos, mul-one, lt-irrefl}
 use borrow.Author.Tests.{ne-eqb, le-ltb}
+use lib.Dec.{T, le→leb, lt→ltb}
 use lib.IntN.{ℤ, pos, negsuc, natAbs}
 use lib.Signed.{ltZ}
-use lib.Ieee.{Float, nan, inf, fin, binary64, up, down, round, ofInt, div}
+use lib.Ieee.{Float, nan, inf, fin, binary64, up, down, round, inFloat, ofInt, div}
 use lib.Ieee.Exact.{HasValue}
 use lib.Ieee.Back.{round-whole}
 use lib.Ieee.Fits.{down-pos}
@@ -16,9 +17,18 @@ use lib.Ieee.Scale.{round-same}
 use Rattle.meaning.specs.Limits.{least, maxResult}
 use Rattle.meaning.specs.Values.{ratio, plusZero}
 
+pub whole-held : (z : ℤ) → natAbs z ≤ maxResult → T (inFloat binary64 z)
+unfolding inFloat
+whole-held (pos n) h = le→leb n (2 ^ 53) (omega arith)
+whole-held (negsuc n) h = lt→ltb n (2 ^ 53) (omega arith)
+
+pub count-exact : (n : ℕ) → n ≤ maxResult → HasValue (ofInt binary64 (pos n)) false n 1
+unfolding ofInt
+count-exact n h = round-whole binary64 false n (omega arith)
+
 pub whole-exact : (z : ℤ) → natAbs z ≤ maxResult → HasValue (ofInt binary64 z) (ltZ z (pos 0)) (natAbs z) 1
-unfolding ofInt round
-whole-exact (pos n) h = subst (λ (b : Bool). HasValue (round binary64 false n 1) b n 1) (sym (le-ltb n 0 (omega arith))) (round-whole binary64 false n (omega arith))
+unfolding ofInt
+whole-exact (pos n) h = subst (λ (b : Bool). HasValue (ofInt binary64 (pos n)) b n 1) (sym (le-ltb n 0 (omega arith))) (count-exact n h)
 whole-exact (negsuc n) h = round-whole binary64 true (suc n) (omega arith)
 
 round-zero : (a den : ℕ) → 0 < den → a ≡ 0 → round binary64 false a den ≡ plusZero
@@ -37,4 +47,4 @@ zero-by (fin false k d) h v =
 
 pub ratio-zero : {d : ℕ} → least ≤ d → d ≤ maxResult → ratio (pos 0) d ≡ plusZero
 unfolding ratio ofInt round
-ratio-zero {d} p h = zero-by (round binary64 false d 1) p (round-whole binary64 false d (omega arith))
+ratio-zero {d} p h = zero-by (ofInt binary64 (pos d)) p (count-exact d h)
