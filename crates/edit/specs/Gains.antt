@@ -11,7 +11,7 @@
 -- Laws: gain-fits, sum-fits; length-gainedIn, gained-inside, gained-before, gained-behind;
 -- by-refused, by-writable, by-done (the two ends of an edit by taps).
 use Prim.Native.Nat.{ℕ, _*_, _-_, _≤_, _<_}
-use mathlib.Core.Path.{_≡_, sym, _∙_, ap}
+use mathlib.Core.Path.{_≡_, sym}
 use mathlib.Core.Bool.{Bool, cond, _||_}
 use mathlib.Core.List.{List, [], _∷_}
 use native.Mathlib.Omega.{arith}
@@ -27,7 +27,7 @@ use Rattle.meaning.specs.Extension.{at}
 use Rattle.meaning.specs.Smoothing.{listOf}
 use Rattle.meaning.specs.Refusals.{Answer, firstOf, rowAt, within, above, ifDone}
 use Rattle.theory.specs.Lists.{length-listOf, at-listOf}
-use Rattle.theory.specs.Refusals.{done, Off, done-off, off-done, ifDone-refused}
+use Rattle.theory.specs.Refusals.{done, Off, done-off, off-done, ifDone-refused, number-zero}
 use Rattle.theory.specs.Tests.{or-no, within-yes, within-before, within-behind}
 use Rattle.theory.specs.Places.{picked, rowAt-none}
 use Rattle.plan.specs.Span.{low, high}
@@ -110,7 +110,7 @@ module _ (xs : List ℤ) (L p : ℕ) (d : ℤ) (r : List ℤ) {start end : ℕ} 
   module _ (z : a .number ≡ 0) where
     none : Off (rowAt 12 (length r) (picked start end (refusedIn L xs p c r)) ∷ [])
     unfolding rowAt
-    none = done-off _ tt (sym (ap (λ (x : Answer). x .number) e) ∙ z)
+    none = done-off _ tt (number-zero e z)
 
     passed : (n : ℕ) → start ≤ n → n < end → end ≤ length r → natAbs (movedIn xs p c r n) ≤ L
     unfolding refusedIn

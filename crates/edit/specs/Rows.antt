@@ -13,7 +13,7 @@ use Rattle.meaning.specs.Extension.{at}
 use Rattle.meaning.specs.Kernel.{Stage, divisor}
 use Rattle.meaning.specs.Refusals.{Answer, Row, firstOf, rowAt, differs, within, planRows, sizeRows}
 use Rattle.meaning.specs.Calls.{sampleRow, editRoom, editRows}
-use Rattle.theory.specs.Refusals.{Numbered, first-on, first-off, done-off, append-off}
+use Rattle.theory.specs.Refusals.{Numbered, first-on, first-off, done-off, append-off, number-zero}
 use Rattle.theory.specs.Places.{rowAt-ext}
 use Rattle.theory.specs.Edits.{resultRow}
 use Rattle.theory.specs.AcceptedEdits.{front, Begun, front-begun, old-passes}
@@ -47,7 +47,7 @@ module _ (ss : List Stage) (M p : ℕ) (v : ℤ) (f : List ℤ) (nr nw : ℕ) wh
   pub front-allowed : {a : Answer} → a ≡ firstOf (frontRows ss M p v f nr nw) → a .number ≡ 0 → Begun ss M p v f nr nw × (natAbs (at f p) ≤ M)
   unfolding frontRows
   front-allowed e z =
-      let (h, t) = append-off (front ss M p v f nr nw) (sampleRow M f (λ i. eqb i p) ∷ []) (done-off (frontRows ss M p v f nr nw) front-numbered (sym (ap (λ (x : Answer). x .number) e) ∙ z)) in
+      let (h, t) = append-off (front ss M p v f nr nw) (sampleRow M f (λ i. eqb i p) ∷ []) (done-off (frontRows ss M p v f nr nw) front-numbered (number-zero e z)) in
       let ok = front-begun ss M p v f nr nw h in
       (ok, old-passes M p f (ok .position) (t .0))
 

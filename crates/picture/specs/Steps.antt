@@ -1,8 +1,7 @@
 -- The steps of smoothing a picture, each over plain lists.
--- Laws: lengths-asked (the lengths that row 8 asks, where row 7 does not apply); ready (what an answer of 0 leaves), swapped; rows-ready (each row has room), passable (each pass down has room); after-none, after-next.
+-- Laws: ready (what an answer of 0 leaves), swapped; rows-ready (each row has room), passable (each pass down has room); after-none, after-next.
 use Prim.Native.Nat.{ℕ, suc, _*_, _<_}
 use mathlib.Core.Path.{_≡_, sym, _∙_, ap}
-use mathlib.Core.Bool.{Bool, false, _||_}
 use mathlib.Core.List.{List}
 use native.Mathlib.Nat.{le-trans, le-mul-of-pos-right, mul-le-mul-left, mul-assoc}
 use native.Mathlib.Omega.{arith}
@@ -12,8 +11,9 @@ use Rattle.meaning.specs.Extension.{fold}
 use Rattle.meaning.specs.Kernel.{divisor}
 use Rattle.meaning.specs.Smoothing.{results, pass}
 use Rattle.meaning.specs.Picture.{across, down}
-use Rattle.meaning.specs.Refusals.{Answer, firstOf, differs, pictureOf}
+use Rattle.meaning.specs.Refusals.{Answer, firstOf, pictureOf}
 use Rattle.meaning.specs.Calls.{smoothRows}
+use Rattle.theory.specs.Refusals.{number-zero}
 use Rattle.theory.specs.HalfSample.{half-sample}
 use Rattle.theory.specs.Lists.{Sized, sized}
 use Rattle.theory.specs.Stages.{room-replicate}
@@ -23,18 +23,13 @@ use Rattle.theory.specs.Accepted.{divisor-allowed}
 use Rattle.theory.specs.AcceptedSmoothings.{picture-allowed}
 use Rattle.plan.specs.declared.Plan.{Plan}
 use Rattle.plan.specs.Structs.{stageOf, stagesOf}
-use Rattle.plan.specs.Sides.{badSides, pictureCells, cells-good}
 use Rattle.plan.specs.Tested.{allowed-tested}
 use Rattle.columns.specs.Ready.{Passable}
 use Rattle.picture.specs.Ready.{Ready, RowsReady, after}
 
--- ---- the test
-pub lengths-asked : (W H n nr nw : ℕ) {cells : ℕ} {wrong : Bool} → cells ≡ pictureCells W H → wrong ≡ (differs n cells || differs nr cells || differs nw cells) → badSides W H ≡ false
-    → wrong ≡ (differs n (W * H) || differs nr (W * H) || differs nw (W * H))
-lengths-asked W H n nr nw c e z = e ∙ ap (λ k. differs n k || differs nr k || differs nw k) (c ∙ cells-good W H z)
-
+-- ---- what an answer of 0 leaves
 pub ready : (p q : Plan) (M W H : ℕ) (f : List ℤ) (nr nw : ℕ) {a : Answer} → a ≡ firstOf (smoothRows (pictureOf (stagesOf p) (stagesOf q) W H) M f nr nw) → a .number ≡ 0 → Ready p q W H f nr nw
-ready p q M W H f nr nw e z = record { bound = M; allowed = picture-allowed (stagesOf p) (stagesOf q) M W H f nr nw (sym (ap (λ (x : Answer). x .number) e) ∙ z) }
+ready p q M W H f nr nw e z = record { bound = M; allowed = picture-allowed (stagesOf p) (stagesOf q) M W H f nr nw (number-zero e z) }
 
 -- ---- the passes
 module _ {p q : Plan} {W H : ℕ} {f : List ℤ} {nd no : ℕ} (h : Ready p q W H f nd no) where

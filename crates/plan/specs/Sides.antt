@@ -1,9 +1,9 @@
 -- The cells of a picture of W columns and H rows.
 --   badSides W H       row 7 applies, under all plans
 --   pictureCells W H   W times H, or 0 where row 7 applies
--- Laws: sides-product (of two sides that are allowed); cells-good (where row 7 does not apply), cells-test (it applies exactly where they are 0).
+-- Laws: sides-product (of two sides that are allowed); cells-good (where row 7 does not apply), cells-asked (so a test of lengths by them is that of W times H), cells-test (it applies exactly where they are 0).
 use Prim.Native.Nat.{ℕ, _*_, _≤_, _<_}
-use mathlib.Core.Path.{_≡_, refl}
+use mathlib.Core.Path.{_≡_, refl, _∙_, ap}
 use mathlib.Core.Bool.{Bool, true, false, cond, _||_}
 use mathlib.Core.List.{[]}
 use native.Mathlib.Nat.{mul-le-mul}
@@ -30,6 +30,9 @@ module _ (W H : ℕ) where
   pub cells-good : badSides W H ≡ false → pictureCells W H ≡ W * H
   unfolding pictureCells
   cells-good e = rw e
+
+  pub cells-asked : (t : ℕ → Bool) {cells : ℕ} {wrong : Bool} → cells ≡ pictureCells W H → wrong ≡ t cells → badSides W H ≡ false → wrong ≡ t (W * H)
+  cells-asked t c e z = e ∙ ap t (c ∙ cells-good z)
 
   pub cells-test : eqb (pictureCells W H) 0 ≡ badSides W H
   unfolding pictureCells

@@ -14,7 +14,7 @@ use Rattle.meaning.specs.Smoothing.{result}
 use Rattle.meaning.specs.Values.{ratio, plusZero}
 use Rattle.meaning.specs.Calls.{sampleRow, editRoom, pointRows, point}
 use Rattle.theory.specs.Local.{near-within}
-use Rattle.theory.specs.Refusals.{ifDone-done, ifDone-refused}
+use Rattle.theory.specs.Refusals.{ifDone-done, ifDone-refused, number-zero}
 use Rattle.theory.specs.Places.{rowAt-ext}
 use Rattle.theory.specs.Accepted.{length-accepted, accepted-divisor}
 use Rattle.theory.specs.AcceptedPoints.{point-allowed}
@@ -37,7 +37,7 @@ module _ (ss : List Stage) (M n : ℕ) (f : List ℤ) (nw : ℕ) {a : Answer} (w
 -- ---- the two ends of a call whose test answered a
 module _ (ss : List Stage) (M n : ℕ) (f w : List ℤ) {a : Answer} (e : a ≡ firstOf (pointRows ss M n f (length w))) where
   pub pointable : a .number ≡ 0 → Pointable ss n f
-  pointable z = let ok = point-allowed ss M n f (length w) (sym (ap (λ (x : Answer). x .number) e) ∙ z) in record { bound = M; common = ok .common; place = ok .position; samples = ok .samples }
+  pointable z = let ok = point-allowed ss M n f (length w) (number-zero e z) in record { bound = M; common = ok .common; place = ok .position; samples = ok .samples }
 
   pub call-refused : (a .number ≡ 0 → ⊥) → Gives (point fold ss M n f w) (Refused (a .number) (a .position)) w
   unfolding point

@@ -20,8 +20,9 @@ use Rattle.theory.specs.Lists.{sized}
 use Rattle.theory.specs.Stages.{room-replicate}
 use Rattle.theory.specs.Passes.{length-results, results-none, results-cons}
 use Rattle.theory.specs.Sizes.{results-size}
-use Rattle.theory.specs.Refusals.{refused-first, done-rest, common-numbered, common-size, ifDone-done, ifDone-refused}
+use Rattle.theory.specs.Refusals.{ifDone-done, ifDone-refused, number-zero}
 use Rattle.theory.specs.Places.{rowAt-ext}
+use Rattle.theory.specs.ShapeRows.{shape-refused, shape-rest}
 use Rattle.theory.specs.Tests.{no-differs}
 use Rattle.theory.specs.AcceptedSmoothings.{series-allowed}
 use Rattle.plan.specs.declared.Plan.{Plan}
@@ -40,14 +41,11 @@ module _ (s : Shape) (M : ℕ) (f : List ℤ) (nr nw : ℕ) where
   rows-tested = rw (rowAt-ext 11 (length f) {t = λ i. true && above M (at f i)} {u = λ i. within 0 (length f) i && above M (at f i)} (λ i l. rw (le-leb 0 i (omega arith), lt-ltb i (length f) l)))
 
   module _ {a : Answer} {wrong : Bool} (e : a ≡ firstOf (commonRows s M wrong)) (w : s .badSize ≡ false → wrong ≡ lengths) where
-    common : a ≡ firstOf (commonRows s M lengths)
-    common = e ∙ common-size s M w
-
     pub test-refused : (a .number ≡ 0 → ⊥) → a ≡ firstOf (smoothRows s M f nr nw)
-    test-refused h = rw rows-tested (refused-first _ _ common h)
+    test-refused h = rw rows-tested (shape-refused s M lengths 11 (length f) _ e w h)
 
     pub test-rest : a .number ≡ 0 → {b : Answer} → b ≡ firstOf (sampleRow M f (within 0 (length f)) ∷ []) → b ≡ firstOf (smoothRows s M f nr nw)
-    test-rest z g = rw rows-tested (done-rest _ _ (common-numbered s M _) common z g)
+    test-rest z g = rw rows-tested (shape-rest s M lengths 11 (length f) _ e w z g)
 
 -- of a series, whose samples have the length asked
 pub series-lengths : (N nr nw : ℕ) {wrong : Bool} → wrong ≡ (differs nr N || differs nw N) → wrong ≡ (differs N N || differs nr N || differs nw N)
@@ -79,7 +77,7 @@ passable {p} {f} h {k} {src} l e s =
 
 -- ---- what an answer of 0 leaves
 pub ready : (p : Plan) (M : ℕ) (f : List ℤ) (nr nw : ℕ) {a : Answer} → a ≡ firstOf (smoothRows (seriesOf (stagesOf p) (length f)) M f nr nw) → a .number ≡ 0 → Ready p f nr nw
-ready p M f nr nw e z = record { bound = M; allowed = series-allowed (stagesOf p) M f nr nw (sym (ap (λ (x : Answer). x .number) e) ∙ z) }
+ready p M f nr nw e z = record { bound = M; allowed = series-allowed (stagesOf p) M f nr nw (number-zero e z) }
 
 -- ---- the two ends of a call whose test answered a, of any shape
 module _ (s : Shape) (M : ℕ) (new f r w : List ℤ) {a : Answer} (e : a ≡ firstOf (smoothRows s M f (length r) (length w))) where
