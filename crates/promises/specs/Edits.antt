@@ -43,7 +43,7 @@ use Rattle.meaning.specs.Refusals.{Row, firstOf, Applies, ifDone, zeros}
 use Rattle.meaning.specs.Calls as outcomes
 use Rattle.meaning.specs.Calls.{gained, changed, editRows, editSeries}
 use Rattle.meaning.specs.Bounds.{AllowedEdit, FirstAt, TooLarge}
-use Rattle.theory.specs.Refusals.{first-applies, first-lowest, done-none, none-done}
+use Rattle.theory.specs.Refusals.{number-lowest, number-none}
 use Rattle.theory.specs.Accepted.{inner-allowed}
 use Rattle.theory.specs.HalfSample.{half-sample, half-sample-near}
 use Rattle.theory.specs.Lists.{Sized, sized}
@@ -166,10 +166,10 @@ module _ (c : EditCall) where
   outcome-number = ap (λ (x : meant.Answer). x .number) (c .learnt .answer)
 
   pub edit-lowest : (number c ≢ 0 → Applies (number c) (rows c)) × ((n : ℕ) → Applies n (rows c) → number c ≤ n)
-  edit-lowest = (λ h. subst (λ (n : ℕ). Applies n (rows c)) (sym number-is) (first-applies (rows c) (λ e. h (number-is ∙ e))), λ n k. omega (arith, number-is, first-lowest (rows c) (tested.edit-rising _ _ _ _ _ _ _ _) k))
+  edit-lowest = number-lowest (rows c) number-is (tested.edit-rising _ _ _ _ _ _ _ _)
 
   pub edit-done : Exactly (number c ≡ 0) ((n : ℕ) → Applies n (rows c) → ⊥)
-  edit-done = (λ e n k. done-none (rows c) (tested.edit-numbered _ _ _ _ _ _ _ _) (sym number-is ∙ e) k, λ h. number-is ∙ none-done (rows c) h)
+  edit-done = number-none (rows c) number-is (tested.edit-numbered _ _ _ _ _ _ _ _)
 
   pub edit-allowed : Exactly (number c ≡ 0) (Allowed c)
   edit-allowed = (λ e. tested.edit-allowed _ _ _ _ _ _ _ _ (sym number-is ∙ e), λ ok. number-is ∙ ap (λ (x : meant.Answer). x .number) (tested.allowed-edit _ _ _ _ _ _ _ _ ok))

@@ -5,6 +5,12 @@
 --   Edits          an edit of a stored smoothing
 --   EditLists      any list of edits, and smoothing beside them
 --   Points         a point
+--   DoublesIn      doubles taken as samples
+--   Outputs        putting results out, of any shape and by any conversion
+--   WholeNumbers   results as whole numbers
+--   DoublesOut     results as doubles
+--   Summaries      the lowest and the highest
+--   Planner        the planner
 --   Plans          a plan's constructor, divisor and reach
 --   Records        the job record's reader and writer, and that each undoes the other
 pub mod Smoothings
@@ -13,5 +19,11 @@ pub mod Pictures
 pub mod Edits
 pub mod EditLists
 pub mod Points
+pub mod DoublesIn
+pub mod Outputs
+pub mod WholeNumbers
+pub mod DoublesOut
+pub mod Summaries
+pub mod Planner
 pub mod Plans
 pub mod Records

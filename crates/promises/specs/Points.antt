@@ -27,7 +27,6 @@ use mathlib.Core.Path.{_≡_, refl, sym, ap, ap₂, _∙_, subst}
 use mathlib.Core.Logic.{_≢_}
 use mathlib.Core.Bool.{Bool, true, false, true≢false}
 use mathlib.Core.List.{List}
-use native.Mathlib.Omega.{arith}
 use lib.ListN.{length}
 use lib.IntN.{ℤ, pos, natAbs, _-ℤ_, _*ℤ_}
 use lib.Signed.{ltZ}
@@ -50,7 +49,7 @@ use Rattle.meaning.specs.Values.{ratio, plusZero}
 use Rattle.meaning.specs.Calls as outcomes
 use Rattle.meaning.specs.Calls.{pointRows}
 use Rattle.meaning.specs.Bounds.{AcceptedPlan, AllowedPoint, FirstAt}
-use Rattle.theory.specs.Refusals.{first-applies, first-lowest, done-off, off-done, done-none, none-done, ifDone-done, ifDone-refused}
+use Rattle.theory.specs.Refusals.{done-off, off-done, number-lowest, number-none, ifDone-done, ifDone-refused}
 use Rattle.theory.specs.Stages.{divisor-plan}
 use Rattle.theory.specs.Passes.{at-results}
 use Rattle.theory.specs.HalfSample.{half-sample, half-sample-near}
@@ -153,10 +152,10 @@ module _ (c : PointCall) where
   point-case = ((is-value, λ k. ap (λ (q : Point). pointAnswer q .number) k), (is-refused, λ k e. not-both (sym (is-value e) ∙ k)))
 
   pub point-lowest : (number c ≢ 0 → Applies (number c) (rows c)) × ((n : ℕ) → Applies n (rows c) → number c ≤ n)
-  point-lowest = (λ h. subst (λ (n : ℕ). Applies n (rows c)) (sym number-is) (first-applies (rows c) (λ e. h (number-is ∙ e))), λ n k. omega (arith, number-is, first-lowest (rows c) (tested.point-rising _ _ _ _ _) k))
+  point-lowest = number-lowest (rows c) number-is (tested.point-rising _ _ _ _ _)
 
   pub point-done : Exactly (number c ≡ 0) ((n : ℕ) → Applies n (rows c) → ⊥)
-  point-done = (λ e n k. done-none (rows c) (tested.point-numbered _ _ _ _ _) (sym number-is ∙ e) k, λ h. number-is ∙ none-done (rows c) h)
+  point-done = number-none (rows c) number-is (tested.point-numbered _ _ _ _ _)
 
   pub point-allowed : Exactly (number c ≡ 0) (Allowed c)
   point-allowed = (λ e. tested.point-allowed _ _ _ _ _ (sym number-is ∙ e), λ ok. number-is ∙ ap (λ (x : meant.Answer). x .number) (tested.allowed-point _ _ _ _ _ ok))

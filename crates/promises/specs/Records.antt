@@ -39,7 +39,7 @@ use Rattle.meaning.specs.Refusals as meant
 use Rattle.meaning.specs.Refusals.{Row, firstOf, Applies}
 use Rattle.meaning.specs.Record as R
 use Rattle.meaning.specs.Record.{Recordable, recordOf, recordSize, readRecord, samplesOf, sampleAt, stretch, writeRows, writeRecord}
-use Rattle.theory.specs.Refusals.{first-applies, first-lowest, first-unplaced, done-off, off-done, ifDone-done, ifDone-refused}
+use Rattle.theory.specs.Refusals.{number-lowest, first-unplaced, done-off, off-done, ifDone-done, ifDone-refused}
 use Rattle.theory.specs.Tests.{outside-no, no-outside, differs-no, no-differs}
 use Rattle.theory.specs.Lists.{at-listOf}
 use Rattle.theory.specs.Records.{length-recordOf, read-recordOf, samples-recordOf, stretch-recordOf, sampleAt-bytes, recordOf-read, read-recordable, read-number as number-either, read-refused as refused-read}
@@ -216,7 +216,7 @@ module _ (c : WriteCall) where
   number-is = ap (λ (x : meant.Answer). x .number) answer-is
 
   pub write-lowest : ((c .answered .number ≡ 0 → ⊥) → Applies (c .answered .number) (rows c)) × ((n : ℕ) → Applies n (rows c) → c .answered .number ≤ n)
-  write-lowest = rw number-is (first-applies (rows c), λ n k. first-lowest (rows c) tt k)
+  write-lowest = number-lowest (rows c) number-is tt
 
   pub write-done : c .answered .number ≡ 0 → (least ≤ count c) × (count c ≤ maxSamples) × (length (room c) ≡ recordSize (count c))
   write-done e =

@@ -1,5 +1,6 @@
 -- Smoothing of any shape, from what its contract says (`Gives`): what holds of a series and of a picture alike.
 --   Exactly A B      A where B, and B where A
+--   back a           the code's answer that has number and position of a
 --   lowest           the number is 0, or that of a row that applies, and then the lowest of those
 --   done-exactly     it is 0 exactly where no row applies
 --   place-first, place-other   at 11 the place is that of the first sample above the bound, else 0
@@ -17,7 +18,7 @@ use Rattle.meaning.specs.Extension.{at}
 use Rattle.meaning.specs.Refusals.{Answer, Row, firstOf, Applies, Shape, zeros}
 use Rattle.meaning.specs.Calls.{Smoothed, smoothRows, smoothed}
 use Rattle.meaning.specs.Bounds.{FirstAt}
-use Rattle.theory.specs.Refusals.{first-applies, first-lowest, done-none, none-done, ifDone-done, ifDone-refused}
+use Rattle.theory.specs.Refusals.{number-lowest, number-none, ifDone-done, ifDone-refused}
 use Rattle.theory.specs.AcceptedSmoothings.{smooth-rising, smooth-numbered, smooth-position, smooth-no-position}
 use Rattle.plan.specs.declared.Answer as answered
 use Rattle.plan.specs.Structs.{answerOf}
@@ -44,10 +45,10 @@ module _ (s : Shape) (M : ℕ) (new f r w : List ℤ) {a : Answer} {rl wl : List
   number-done e = number-is ∙ e
 
   pub lowest : (a .number ≢ 0 → Applies (a .number) rows) × ((n : ℕ) → Applies n rows → a .number ≤ n)
-  lowest = rw number-is (first-applies rows, λ n k. first-lowest rows (smooth-rising s M f _ _) k)
+  lowest = number-lowest rows number-is (smooth-rising s M f _ _)
 
   pub done-exactly : Exactly (a .number ≡ 0) ((n : ℕ) → Applies n rows → ⊥)
-  done-exactly = rw number-is (λ e n k. done-none rows (smooth-numbered s M f _ _) e k, none-done rows)
+  done-exactly = number-none rows number-is (smooth-numbered s M f _ _)
 
   pub place-first : a .number ≡ 11 → FirstAt (length f) (λ i. M < natAbs (at f i)) (a .position)
   place-first = smooth-position s M f _ _ answer-is
@@ -68,7 +69,7 @@ module _ (s : Shape) (M : ℕ) (new f r w : List ℤ) {a : Answer} {rl wl : List
   left e = h .work ∙ ifDone-done _ _ _ (done-number e)
 
 -- ---- two calls
-abbrev back : Answer → answered.Answer
+abbrev pub back : Answer → answered.Answer
 back a = record { number = a .number; position = a .position }
 
 pub same : {o p : Smoothed} → o ≡ p → {a b : answered.Answer} {r s w x : List ℤ} → Gives o (answerOf a) r w → Gives p (answerOf b) s x → (a ≡ b) × (r ≡ s) × (w ≡ x)

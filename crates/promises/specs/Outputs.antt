@@ -1,0 +1,126 @@
+-- Putting results out: what holds of whole numbers and of doubles, of a series and of a picture alike.
+--   Output g         an outcome that a call's contract allows: shape, bound, results and cells as given; answer, and the cells left. g makes a cell of a result and the divisor,
+--                    which is not 0 where the call is done
+--   output-lowest    the number is 0, or that of a row that applies, and then the lowest of those
+--   output-done      it is 0 exactly where no row applies
+--   output-place-12, output-place-other   at 12 the place is that of the first result above M times the divisor, else 0
+--   output-unchanged a refused call leaves every cell as it was
+--   output-length    one that is done leaves as many cells as there are results
+--   output-cell      and each is g of its result and the divisor
+--   output-small, output-divisor   no result is above M times the divisor, nor are that and the divisor above the largest result
+--   output-series, output-picture   the number is 0 exactly where the bounds of a series hold, and of a picture
+--   series-divides, picture-divides   and then the divisor is not 0
+--   series-inputs, picture-inputs   the definitions give the same outcome of the same inputs
+--   output-same      so two outcomes are the same
+use Prim.Native.Nat.{ℕ, _*_, _≤_, _<_}
+use mathlib.Core.Path.{_≡_, sym, ap, _∙_}
+use mathlib.Core.Logic.{_≢_}
+use mathlib.Core.List.{List, map}
+use native.Mathlib.Nat.{mul-le-mul-right}
+use native.Mathlib.Omega.{arith}
+use lib.ListN.{length, getD, length-map}
+use lib.IntN.{ℤ, pos, natAbs}
+use Rattle.meaning.specs.Limits.{maxResult}
+use Rattle.meaning.specs.Extension.{at}
+use Rattle.meaning.specs.Kernel.{Stage, divisor}
+use Rattle.meaning.specs.Refusals.{Answer, Row, firstOf, Applies, Shape, seriesOf, pictureOf}
+use Rattle.meaning.specs.Values.{Converted, outputRows, converted}
+use Rattle.meaning.specs.Bounds.{AllowedSeriesOut, AllowedPictureOut, FirstAt}
+use Rattle.theory.specs.Refusals.{number-lowest, number-none, ifDone-done, ifDone-refused}
+use Rattle.theory.specs.Fill.{getD-map}
+use Rattle.theory.specs.AcceptedOutputs as tested
+use Rattle.plan.specs.declared.Answer as answered
+use Rattle.plan.specs.declared.Plan.{Plan}
+use Rattle.plan.specs.Structs.{stagesOf, answerOf}
+use Rattle.values.specs.Contract.{Gives}
+use Rattle.promises.specs.Smoothings.{Exactly, back}
+
+pub record Output {A : Type 0} (g : ℤ → ℕ → A) : Type 0 where
+  pub shape : Shape
+  pub bound : ℕ
+  pub results : List ℤ
+  pub cells : List A
+  pub answer : Answer
+  pub left : List A
+  pub gives : Gives (converted g shape bound results cells) answer left
+  pub divides : answer .number ≡ 0 → 0 < shape .divisor
+
+abbrev pub rows : {A : Type 0} {g : ℤ → ℕ → A} → Output g → List Row
+rows o = outputRows (o .shape) (o .bound) (o .results) (length (o .cells))
+
+module _ {A : Type 0} {g : ℤ → ℕ → A} (o : Output g) where
+  answer-is : o .answer ≡ firstOf (rows o)
+  unfolding converted
+  answer-is = o .gives .answer
+
+  number-is : o .answer .number ≡ firstOf (rows o) .number
+  number-is = ap (λ (x : Answer). x .number) answer-is
+
+  pub output-lowest : (o .answer .number ≢ 0 → Applies (o .answer .number) (rows o)) × ((n : ℕ) → Applies n (rows o) → o .answer .number ≤ n)
+  output-lowest = number-lowest (rows o) number-is (tested.output-rising _ _ _ _)
+
+  pub output-done : Exactly (o .answer .number ≡ 0) ((n : ℕ) → Applies n (rows o) → ⊥)
+  output-done = number-none (rows o) number-is (tested.output-numbered _ _ _ _)
+
+  pub output-place-12 : o .answer .number ≡ 12 → FirstAt (length (o .results)) (λ i. o .bound * o .shape .divisor < natAbs (at (o .results) i)) (o .answer .position)
+  output-place-12 = tested.output-position _ _ _ _ answer-is
+
+  pub output-place-other : o .answer .number ≢ 12 → o .answer .position ≡ 0
+  output-place-other = tested.output-no-position _ _ _ _ answer-is
+
+  pub output-unchanged : o .answer .number ≢ 0 → o .left ≡ o .cells
+  unfolding converted
+  output-unchanged n = o .gives .cells ∙ ifDone-refused _ _ _ (λ e. n (number-is ∙ e))
+
+  -- a call that is done
+  module _ (e : o .answer .number ≡ 0) where
+    whole : o .left ≡ map (λ z. g z (o .shape .divisor)) (o .results)
+    unfolding converted
+    whole = o .gives .cells ∙ ifDone-done _ _ _ (sym number-is ∙ e)
+
+    pub output-length : length (o .left) ≡ length (o .results)
+    output-length = ap length whole ∙ length-map (o .results) _
+
+    pub output-cell : (x : A) {i : ℕ} → i < length (o .results) → getD (o .left) i x ≡ g (at (o .results) i) (o .shape .divisor)
+    output-cell x {i} l = ap (λ (f : List A). getD f i x) whole ∙ getD-map _ (o .results) i (pos 0) x l
+
+    pub output-small : (o .bound * o .shape .divisor ≤ maxResult) × ((i : ℕ) → i < length (o .results) → natAbs (at (o .results) i) ≤ o .bound * o .shape .divisor)
+    output-small = let z = sym number-is ∙ e in (tested.output-bounds _ _ _ _ z .1, tested.output-lent _ _ _ _ z .1 .results)
+
+    pub output-divisor : o .shape .divisor ≤ maxResult
+    output-divisor = let z = sym number-is ∙ e in omega (arith, tested.output-bounds _ _ _ _ z .1, mul-le-mul-right (o .shape .divisor) (tested.output-bounds _ _ _ _ z .0 .0))
+
+-- ---- its bounds
+module _ {A : Type 0} (g : ℤ → ℕ → A) (M : ℕ) (r : List ℤ) (cells : List A) {a : Answer} {left : List A} where
+  pub output-series : (ss : List Stage) → Gives (converted g (seriesOf ss (length r)) M r cells) a left → Exactly (a .number ≡ 0) (AllowedSeriesOut ss M r (length cells))
+  unfolding converted
+  output-series ss h =
+      let is = ap (λ (x : Answer). x .number) (h .answer) in
+      (λ e. tested.series-out-allowed ss M r _ (sym is ∙ e), λ ok. is ∙ ap (λ (x : Answer). x .number) (tested.allowed-series-out ss M r _ ok))
+
+  pub series-divides : (ss : List Stage) → Gives (converted g (seriesOf ss (length r)) M r cells) a left → a .number ≡ 0 → 0 < divisor ss
+  series-divides ss h e = tested.series-out-divisor ss M r _ (output-series ss h .0 e)
+
+  pub output-picture : (hs vs : List Stage) (W H : ℕ) → Gives (converted g (pictureOf hs vs W H) M r cells) a left → Exactly (a .number ≡ 0) (AllowedPictureOut hs vs M W H r (length cells))
+  unfolding converted
+  output-picture hs vs W H h =
+      let is = ap (λ (x : Answer). x .number) (h .answer) in
+      (λ e. tested.picture-out-allowed hs vs M W H r _ (sym is ∙ e), λ ok. is ∙ ap (λ (x : Answer). x .number) (tested.allowed-picture-out hs vs M W H r _ ok))
+
+  pub picture-divides : (hs vs : List Stage) (W H : ℕ) → Gives (converted g (pictureOf hs vs W H) M r cells) a left → a .number ≡ 0 → 0 < divisor hs * divisor vs
+  picture-divides hs vs W H h e = tested.picture-out-divisor hs vs M W H r _ (output-picture hs vs W H h .0 e)
+
+-- ---- two calls
+module _ {A : Type 0} (g : ℤ → ℕ → A) where
+  pub series-inputs : {p q : Plan} {M L : ℕ} {r s : List ℤ} {x y : List A} → p ≡ q → M ≡ L → r ≡ s → x ≡ y → converted g (seriesOf (stagesOf p) (length r)) M r x ≡ converted g (seriesOf (stagesOf q) (length s)) L s y
+  series-inputs p m r x = rw (p, m, r, x)
+
+  pub picture-inputs : {p q t u : Plan} {M L W X H Y : ℕ} {r s : List ℤ} {x y : List A} → p ≡ q → t ≡ u → M ≡ L → W ≡ X → H ≡ Y → r ≡ s → x ≡ y
+      → converted g (pictureOf (stagesOf p) (stagesOf t) W H) M r x ≡ converted g (pictureOf (stagesOf q) (stagesOf u) X Y) L s y
+  picture-inputs p t m w h r x = rw (p, t, m, w, h, r, x)
+
+pub output-same : {A : Type 0} {o p : Converted A} → o ≡ p → {a b : answered.Answer} {l m : List A} → Gives o (answerOf a) l → Gives p (answerOf b) m → (a ≡ b) × (l ≡ m)
+output-same {A} e g h = (
+  ap back (g .answer ∙ ap (λ (o : Converted A). o .answer) e ∙ sym (h .answer)),
+  g .cells ∙ ap (λ (o : Converted A). o .cells) e ∙ sym (h .cells),
+)
