@@ -183,6 +183,14 @@ export function planner({ sigma, passes, inner }) {
   return { ...DONE, ...found };
 }
 
+// How many sigmas there are; number, radius and edge weight of each from 1 on, one after the other.
+export function plannerOfAll({ passes, inner }) {
+  const sigmas = Array.from({ length: Number(MOST_SIGMA) }, (_, n) => BigInt(n + 1));
+  const planned = sigmas.map((sigma) => planner({ sigma, passes, inner }));
+  const numbers = planned.flatMap(({ number, radius, edge }) => [number, radius, edge]);
+  return { count: MOST_SIGMA, planned: BigUint64Array.from(numbers) };
+}
+
 // A plan by itself. Its divisor and its reach are 0 where it is refused under every bound; the least bound is 1.
 export function planByItself({ plan }) {
   if (limitsRefused([plan], 1n)) return { divisor: 0n, reach: 0n };

@@ -1,4 +1,4 @@
-// Cases of calls 5 and 100: the planner, and a plan by itself.
+// Cases of calls 5, 100 and 102: the planner, a plan by itself, and the planner of every sigma.
 import { LARGEST_U64, WIDEST, anyPlan, chance, pick, plan, times } from './inputs.mjs';
 
 // Call 5.
@@ -35,13 +35,22 @@ const PLANNER_EDGES = [
 const PLANNER_EXACT = [200, 2800].flatMap((sigma) => [-1, 0, 1].map((more) => (
   plannerCase('about an exact radius', sigma + more, 1, 255))));
 
+const EVERY_PASSES = times(8, (n) => n + 1);
+const INNERS = [1, 16, 255];
+
+// Every number of passes over a coarse grid. Steps are finer where a radius is small.
+const COARSE = [2, 25, 50, 99, 158, 250, 400, 666, 1000, 1600, 2503, 4000, 6400, 10_000, 16_000, 25_599];
+
+const PLANNER_GRID = INNERS.flatMap((inner) => EVERY_PASSES.flatMap((passes) => (
+  COARSE.map((sigma) => plannerCase('coarse grid', sigma, passes, inner)))));
+
 function plannerCases() {
   const below = chance(105);
   const chosen = times(72, (n) => {
     const sigma = pick(below, [1 + below(100), 1 + below(1_000), 1 + below(25_600)]);
     return plannerCase('chosen', sigma, 1 + n % 8, pick(below, [1, 2, 16, 100, 255]));
   });
-  return [...PLANNER_EDGES, ...PLANNER_EXACT, ...chosen];
+  return [...PLANNER_EDGES, ...PLANNER_EXACT, ...PLANNER_GRID, ...chosen];
 }
 
 // Call 100.
@@ -155,4 +164,15 @@ function planCases() {
   return [...PLAN_EXAMPLES, ...PASSES, ...RADII, ...WEIGHTS, ...POWERS, ...WRAPPING, ...WIDE, ...TOGETHER, ...chosen];
 }
 
-export const casesOfPlans = { 5: plannerCases, 100: planCases };
+// Call 102.
+
+function everySigmaCase(note, passes, inner) {
+  return { note, args: { passes, inner } };
+}
+
+function everySigmaCases() {
+  const accepted = INNERS.flatMap((inner) => EVERY_PASSES.map((passes) => everySigmaCase('every sigma', passes, inner)));
+  return [...accepted, everySigmaCase('passes 9', 9, 16), everySigmaCase('inner 0', 8, 0)];
+}
+
+export const casesOfPlans = { 5: plannerCases, 100: planCases, 102: everySigmaCases };

@@ -12,7 +12,7 @@ import { callWords } from './stream.mjs';
 // The numbers each call can give; `check` asserts that the stored cases give them all.
 // The planner's 15 cannot be reached: sigma is at most 256, so the radius found is at most 442.
 // The summary of a series is lent results alone, whose length is N itself, so it cannot give 8.
-// A plan by itself answers no number, nor does a stretch of a record.
+// A plan by itself answers no number, nor does a stretch of a record; the planner of every sigma answers all of theirs.
 export const NUMBERS_GIVEN = {
   1: [0, 1, 2, 3, 4, 5, 6, 7, 8, 11],
   2: [0, 1, 2, 3, 4, 5, 6, 7, 8, 11],

@@ -129,12 +129,22 @@ export function weightAt(kernel, length, p, n) {
   return weight;
 }
 
+// The largest of 0 .. most with the property, which the lower ones have too; found by halving.
+function largest(most, property) {
+  let [found, left] = [0n, most];
+  while (found < left) {
+    const middle = (found + left + 1n) / 2n;
+    if (property(middle)) found = middle;
+    else left = middle - 1n;
+  }
+  return found;
+}
+
 // Radius and edge weight for sigma in hundredths, in BigInt because the quotient is rounded down.
 export function planFor(sigma, passes, inner) {
   const q = 10_000n * passes;
   const square = sigma * sigma;
-  let r = 0n;
-  while ((r + 1n) * (r + 2n) * q <= 3n * square) r += 1n;
+  const r = largest(sigma, (radius) => radius * (radius + 1n) * q <= 3n * square);
   const over = inner * (2n * r + 1n) * (3n * square - r * (r + 1n) * q);
   const under = 6n * ((r + 1n) * (r + 1n) * q - square);
   return { radius: r, edge: over / under };

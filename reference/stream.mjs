@@ -83,6 +83,10 @@ export const CALLS = {
     name: 'stretch', run: stretchAndSample,
     takes: { record: 'u8s', start: 'u64', size: 'u64', index: 'u64' }, prints: ['length', 'sample', 'stretch'],
   },
+  102: {
+    name: 'planner-all', run: calls.plannerOfAll,
+    takes: { passes: 'u64', inner: 'u64' }, prints: ['count', 'planned'],
+  },
 };
 
 // Numbers and slices from words. A word too wide for its type is taken modulo that width.

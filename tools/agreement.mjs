@@ -207,9 +207,9 @@ const OPENED = {
   'Rattle.meaning.specs.Picture': 'pixel grid picture',
   'Rattle.meaning.specs.Refusals': 'firstOf firstWhere rowAt some planRows sizeRows ifDone ownRows planDivisor planReach',
   'Rattle.meaning.specs.Values':
-    'nearest ratio takes doubleRows doublesIn outputRows converted lowestIn highestIn summary',
+    'nearest ratio takes doubleRows doublesIn outputRows converted unbeaten summary',
   'Rattle.meaning.specs.Calls': 'smoothRows smoothed gained editRows countWhere changed editSeries pointRows point',
-  'Rattle.meaning.specs.Planner': 'largest radiusFor edgeFor planFor',
+  'Rattle.meaning.specs.Planner': 'largest radiusFor edgeFor plannerRows planFor',
   'Rattle.meaning.specs.Encoding': 'bytes number text digits decimal',
   'Rattle.meaning.specs.Record':
     'field sampleBytes sampleAt stretch samplesOf recordOf begins reading readRecord writeRecord',

@@ -1,12 +1,12 @@
 -- What is printed of a long slice.
 --   modulus          2³¹ − 1
---   gained s at v    s and (at + 1) v, each factor and the sum modulo that
+--   gained s at x    s and (at + 1) x, the first factor and the sum modulo that
 --   weighted f n     the sum of (i + 1) f(i) over the first n elements
 --   checksumTo f n   that sum modulo 2³¹ − 1, never negative
 --   checksumOf f     the checksum of all elements
--- Laws: checksum-below, checksum-none, checksum-more (one element more adds its weighted remainder).
+-- Laws: checksum-below, checksum-none, checksum-more (one element more adds its weighted remainder), number-residue (of a number without sign).
 use mathlib.Core.Path.{_≡_, refl, sym, _∙_, ap}
-use mathlib.Core.List.{List}
+use mathlib.Core.List.{List, map}
 use Prim.Native.Nat.{ℕ, zero, suc, _+_, _*_, _%_, _<_}
 use native.Mathlib.Nat.{mul-comm}
 use native.Mathlib.Numerals.{add-one}
@@ -16,13 +16,14 @@ use lib.IntN.{ℤ, pos, _+ℤ_, _*ℤ_, *ℤ-comm, zero-*ℤ, sucℤ-*ℤ}
 use Rattle.algebra.specs.Ring.{ac}
 use Rattle.algebra.specs.Sum.{sum}
 use Rattle.meaning.specs.Extension.{emod}
+use Rattle.theory.specs.Fill.{getD-map}
 use Rattle.theory.specs.HalfSample.{emod-shift, emod-below}
 
 abbrev pub modulus : ℕ
 modulus = 2147483647
 
-abbrev pub gained : ℕ → ℕ → ℤ → ℕ
-gained s at v = (s + (at + 1) % modulus * emod v modulus) % modulus
+abbrev pub gained : ℕ → ℕ → ℕ → ℕ
+gained s at x = (s + (at + 1) % modulus * x) % modulus
 
 abbrev pub weighted : List ℤ → ℕ → ℤ
 weighted f n = sum n (λ i. pos (suc i) *ℤ getD f i (pos 0))
@@ -66,5 +67,9 @@ module _ (p : ℕ) (h : 0 < p) where
   unfolding sum
   weighted-more f i = rw (add-one i) (emod-gained (weighted f i) (suc i) (getD f i (pos 0)))
 
-pub checksum-more : (f : List ℤ) (i : ℕ) {s t : ℕ} {v : ℤ} → s ≡ checksumTo f i → v ≡ getD f i (pos 0) → t ≡ gained s i v → t ≡ checksumTo f (i + 1)
-checksum-more f i {v = v} e h g = g ∙ ap (λ x. gained x i v) e ∙ ap (gained (checksumTo f i) i) h ∙ sym (weighted-more modulus (omega arith) f i)
+pub checksum-more : (f : List ℤ) (i : ℕ) {s t x : ℕ} → s ≡ checksumTo f i → x ≡ emod (getD f i (pos 0)) modulus → t ≡ gained s i x → t ≡ checksumTo f (i + 1)
+checksum-more f i {x = x} e h g = g ∙ ap (λ y. gained y i x) e ∙ ap (gained (checksumTo f i) i) h ∙ sym (weighted-more modulus (omega arith) f i)
+
+pub number-residue : (xs : List ℕ) (i : ℕ) → i < length xs → getD xs i 0 % modulus ≡ emod (getD (map pos xs) i (pos 0)) modulus
+unfolding emod
+number-residue xs i l = rw (getD-map pos xs i 0 (pos 0) l)

@@ -1,5 +1,5 @@
 -- The words of this crate's contracts.
---   Front      a slice read into the front of a longer one
+--   Front      the driver's slices, and one read into the front of another
 --   Checksum   what is printed of a long slice
 pub mod Front
 pub mod Checksum

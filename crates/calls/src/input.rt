@@ -1,6 +1,7 @@
 // Standard input as 8-byte words, high byte first. Where it ends, the stream is no longer open, and words are 0.
 ghost use mathlib.Core.Path.{_≡_};
 ghost use Prim.Native.Nat.{_%_, _^_, _≤_};
+ghost use lib.ListN.{length};
 ghost use mir.Syntax.{w32, w64};
 ghost use mir.Val.{toZ};
 ghost use Rattle.calls.specs.Front.{Counts};
@@ -30,6 +31,30 @@ pub(crate) fn plan(open: &mut bool) -> Plan {
     let edge = word(open);
     let passes = word(open);
     Plan::new(radius, inner, edge, passes)
+}
+
+// What every call of a picture takes first.
+pub(crate) struct Raster {
+    pub across: Plan,
+    pub down: Plan,
+    pub bound: u64,
+    pub width: u64,
+    pub height: u64,
+}
+
+pub(crate) fn picture(open: &mut bool) -> Raster {
+    let across = plan(open);
+    let down = plan(open);
+    let bound = word(open);
+    let width = word(open);
+    let height = word(open);
+    Raster {
+        across,
+        down,
+        bound,
+        width,
+        height,
+    }
 }
 
 // A slice of samples, into the front of room; how many there are.
@@ -63,6 +88,28 @@ pub(crate) fn bytes(open: &mut bool, room: &mut [u8]) -> usize
         room[i] = byte(open);
     }
     count
+}
+
+// Doubles, given as their bits, into the front of room, and the bits themselves into that of words.
+pub(crate) fn doubles(open: &mut bool, words: &mut [u64], room: &mut [f64]) -> usize
+    requires { ⌜ length (now room) ≤ length (now words) ⌝ }
+    ensures { λ r. ⌜ Counts r (now (room .exit)) ⌝ }
+{
+    let count = length(open, room.len());
+    for i in 0..count {
+        let bits = word(open);
+        words[i] = bits;
+        room[i] = double_of(bits);
+    }
+    count
+}
+
+// A NaN cannot be made of its bits. They are those above infinity's, whatever the sign.
+fn double_of(bits: u64) -> f64 {
+    if 9218868437227405312 < bits % 9223372036854775808 {
+        return 0.0 / 0.0;
+    }
+    f64::from_bits(bits)
 }
 
 fn length(open: &mut bool, most: usize) -> usize

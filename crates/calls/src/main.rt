@@ -1,7 +1,8 @@
 // Runs test vectors through the public calls: a stream of words in, a line a call out.
-ghost use Prim.Native.Nat.{_≤_};
 ghost use lib.ListN.{length};
+ghost use Rattle.calls.specs.Front.{Rooms};
 
+mod conversions;
 mod edits;
 mod input;
 mod output;
@@ -20,37 +21,59 @@ fn main() {
     let mut results = [0i64; MOST_ELEMENTS];
     let mut work = [0i64; MOST_ELEMENTS];
     let mut bytes = [0u8; MOST_ELEMENTS];
-    run(&mut samples, &mut results, &mut work, &mut bytes);
+    let mut doubles = [0f64; MOST_ELEMENTS];
+    let mut words = [0u64; MOST_ELEMENTS];
+    run(
+        &mut samples,
+        &mut results,
+        &mut work,
+        &mut bytes,
+        &mut doubles,
+        &mut words,
+    );
 }
 
-// Bytes are printed from the work, so it is as long as they are.
-fn run(samples: &mut [i32], results: &mut [i64], work: &mut [i64], bytes: &mut [u8])
-    requires { ⌜ length (now bytes) ≤ length (now work) ⌝ }
+// Bytes are printed from the work and doubles from the words, so these are as long.
+fn run(
+    samples: &mut [i32],
+    results: &mut [i64],
+    work: &mut [i64],
+    bytes: &mut [u8],
+    doubles: &mut [f64],
+    words: &mut [u64],
+)
+    requires { ⌜ Rooms (length (now bytes)) (length (now work)) (length (now doubles)) (length (now words)) ⌝ }
 {
     for _ in 0..MOST_CALLS {
-        if !one_call(samples, results, work, bytes) {
+        if !one_call(samples, results, work, bytes, doubles, words) {
             return;
         }
     }
 }
 
-// Whether the stream goes on. A number of no call ends it too.
-fn one_call(samples: &mut [i32], results: &mut [i64], work: &mut [i64], bytes: &mut [u8]) -> bool
-    requires { ⌜ length (now bytes) ≤ length (now work) ⌝ }
+// Whether the stream goes on.
+fn one_call(
+    samples: &mut [i32],
+    results: &mut [i64],
+    work: &mut [i64],
+    bytes: &mut [u8],
+    doubles: &mut [f64],
+    words: &mut [u64],
+) -> bool
+    requires { ⌜ Rooms (length (now bytes)) (length (now work)) (length (now doubles)) (length (now words)) ⌝ }
 {
     let mut open = true;
-    match input::word(&mut open) {
+    let number = input::word(&mut open);
+    match number {
         1 => smoothing::smooth_series(&mut open, samples, results, work),
         2 => smoothing::smooth_picture(&mut open, samples, results, work),
         3 => edits::edit_series(&mut open, samples, results, work),
         4 => edits::point(&mut open, samples, work),
+        6..=12 => conversions::one_call(&mut open, number, samples, results, doubles, words),
         13 => records::read_record(&mut open, bytes),
         14 => records::write_record(&mut open, samples, bytes, work),
-        100 => plans::divisor_and_reach(&mut open),
         101 => records::stretch_and_sample(&mut open, bytes, work),
-        _ => {
-            open = false;
-        }
+        _ => plans::one_call(&mut open, number),
     }
     open
 }

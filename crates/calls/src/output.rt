@@ -1,7 +1,9 @@
 // Lines of standard output: words with one space between.
 ghost use mathlib.Core.Path.{_≡_};
+ghost use mathlib.Core.List.{map};
 ghost use Prim.Native.Nat.{_+_, _^_, _≤_, _<_};
 ghost use lib.ListN.{length};
+ghost use lib.IntN.{pos};
 ghost use Rattle.meaning.specs.Extension.{emod};
 ghost use Rattle.calls.specs.Checksum.{modulus, gained, checksumOf};
 use encoding::inner::magnitude;
@@ -12,6 +14,8 @@ use plan::Answer;
 const MOST_PRINTED: usize = 64;
 
 const MODULUS: u64 = 2147483647;
+
+const QUIET_NAN: u64 = 9221120237041090560;
 
 // The first two words of a line.
 pub(crate) fn answer(answer: Answer) {
@@ -29,13 +33,9 @@ pub(crate) fn number(n: u64) {
     io::print_decimal(STDOUT_FILENO, n);
 }
 
-// A double is printed as its bits. A NaN may have any of several, so its name stands for it.
+// A double is printed as its bits.
 pub(crate) fn double(x: f64) {
-    if x == x {
-        number(f64::to_bits(x));
-    } else {
-        io::write_all(STDOUT_FILENO, b" nan");
-    }
+    number(bits(x, QUIET_NAN));
 }
 
 pub(crate) fn wholes(values: &[i64]) {
@@ -63,6 +63,33 @@ pub(crate) fn bytes(values: &[u8], room: &mut [i64])
         room[i] = values[i] as i64;
     }
     wholes(&room[..values.len()]);
+}
+
+// Doubles are printed as their bits, from the front of the words that they were read from.
+pub(crate) fn doubles(values: &[f64], words: &mut [u64])
+    requires { ⌜ length (now values) ≤ length (now words) ⌝ }
+{
+    for i in 0..values.len() {
+        words[i] = bits(values[i], words[i]);
+    }
+    numbers(&words[..values.len()]);
+}
+
+// A NaN's own bits cannot be read, so others stand for them.
+fn bits(x: f64, otherwise: u64) -> u64 {
+    if x == x {
+        return f64::to_bits(x);
+    }
+    otherwise
+}
+
+// Numbers without sign.
+pub(crate) fn numbers(values: &[u64]) {
+    if values.len() > MOST_PRINTED {
+        in_short(values.len(), number_checksum(values));
+    } else {
+        number_elements(values);
+    }
 }
 
 pub(crate) fn end_line() {
@@ -93,6 +120,12 @@ fn sample_elements(values: &[i32]) {
     }
 }
 
+fn number_elements(values: &[u64]) {
+    for i in 0..values.len() {
+        number(values[i]);
+    }
+}
+
 pub(crate) fn whole(value: i64) {
     if value < 0 {
         io::write_all(STDOUT_FILENO, b" -");
@@ -107,7 +140,7 @@ fn checksum(values: &[i64]) -> u64
 {
     let mut sum = 0;
     for i in 0..values.len() {
-        sum = gain(sum, i, values[i]);
+        sum = gain(sum, i, residue(values[i]));
     }
     sum
 }
@@ -117,16 +150,26 @@ fn sample_checksum(values: &[i32]) -> u64
 {
     let mut sum = 0;
     for i in 0..values.len() {
-        sum = gain(sum, i, values[i] as i64);
+        sum = gain(sum, i, residue(values[i] as i64));
     }
     sum
 }
 
-fn gain(sum: u64, at: usize, value: i64) -> u64
-    requires { ⌜ (sum < modulus) × (at + 1 < 2 ^ 64) ⌝ }
-    ensures { λ r. ⌜ r ≡ gained sum at value ⌝ }
+fn number_checksum(values: &[u64]) -> u64
+    ensures { λ r. ⌜ r ≡ checksumOf (map pos (now (values .entry))) ⌝ }
 {
-    (sum + (at as u64 + 1) % MODULUS * residue(value)) % MODULUS
+    let mut sum = 0;
+    for i in 0..values.len() {
+        sum = gain(sum, i, values[i] % MODULUS);
+    }
+    sum
+}
+
+fn gain(sum: u64, at: usize, residue: u64) -> u64
+    requires { ⌜ (sum < modulus) × (at + 1 < 2 ^ 64) × (residue < modulus) ⌝ }
+    ensures { λ r. ⌜ r ≡ gained sum at residue ⌝ }
+{
+    (sum + (at as u64 + 1) % MODULUS * residue) % MODULUS
 }
 
 fn residue(value: i64) -> u64

@@ -1,5 +1,6 @@
 // The calls that smooth. Each is read by one function, and made and printed by the next.
 use crate::input;
+use crate::input::Raster;
 use crate::output;
 use plan::Plan;
 
@@ -40,21 +41,13 @@ pub(crate) fn smooth_picture(
     results: &mut [i64],
     work: &mut [i64],
 ) {
-    let across = input::plan(open);
-    let down = input::plan(open);
-    let bound = input::word(open);
-    let width = input::word(open);
-    let height = input::word(open);
+    let picture = input::picture(open);
     let n = input::samples(open, samples);
     let cells = input::wholes(open, results);
     let spare = input::wholes(open, work);
     if *open {
         smoothed_picture(
-            across,
-            down,
-            bound,
-            width,
-            height,
+            picture,
             &samples[..n],
             &mut results[..cells],
             &mut work[..spare],
@@ -62,22 +55,13 @@ pub(crate) fn smooth_picture(
     }
 }
 
-fn smoothed_picture(
-    across: Plan,
-    down: Plan,
-    bound: u64,
-    width: u64,
-    height: u64,
-    samples: &[i32],
-    results: &mut [i64],
-    work: &mut [i64],
-) {
+fn smoothed_picture(picture: Raster, samples: &[i32], results: &mut [i64], work: &mut [i64]) {
     output::answer(picture::smooth_picture(
-        across,
-        down,
-        bound,
-        width,
-        height,
+        picture.across,
+        picture.down,
+        picture.bound,
+        picture.width,
+        picture.height,
         samples,
         results,
         work,

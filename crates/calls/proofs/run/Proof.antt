@@ -7,10 +7,10 @@ use Rattle.calls.proofs.run.Statement.{statement}
 use Rattle.calls.proofs.run.Tie as tie
 
 abbrev Inv-loop : tie.InvT-loop
-Inv-loop samples₀ results₀ work₀ bytes₀ counter₀ samples results work bytes counter = (length samples ≡ length samples₀) × (length results ≡ length results₀) × (length work ≡ length work₀) × (length bytes ≡ length bytes₀)
+Inv-loop samples₀ results₀ work₀ bytes₀ doubles₀ words₀ counter₀ samples results work bytes doubles words counter = (length samples ≡ length samples₀) × (length results ≡ length results₀) × (length work ≡ length work₀) × (length bytes ≡ length bytes₀) × (length doubles ≡ length doubles₀) × (length words ≡ length words₀)
 
 abbrev μ-loop : tie.MeasureT-loop
-μ-loop samples₀ results₀ work₀ bytes₀ counter₀ samples results work bytes counter = 1000000 - counter
+μ-loop samples₀ results₀ work₀ bytes₀ doubles₀ words₀ counter₀ samples results work bytes doubles words counter = 1000000 - counter
 
 loop-holds : tie.Need-loop-holds Inv-loop μ-loop
 loop-holds c = search needs
@@ -30,6 +30,12 @@ same-length-3 c = search needs
 same-length-4 : tie.Need-same-length-4 Inv-loop μ-loop
 same-length-4 c = search needs
 
+same-length-5 : tie.Need-same-length-5 Inv-loop μ-loop
+same-length-5 c = search needs
+
+same-length-6 : tie.Need-same-length-6 Inv-loop μ-loop
+same-length-6 c = search needs
+
 returns : tie.Need-returns Inv-loop μ-loop
 returns c = search needs
 
@@ -42,17 +48,23 @@ loop-less c = search needs
 loop-again : tie.Need-loop-again Inv-loop μ-loop
 loop-again c = search needs
 
-same-length-5 : tie.Need-same-length-5 Inv-loop μ-loop
-same-length-5 c = search needs
-
-same-length-6 : tie.Need-same-length-6 Inv-loop μ-loop
-same-length-6 c = search needs
-
 same-length-7 : tie.Need-same-length-7 Inv-loop μ-loop
 same-length-7 c = search needs
 
 same-length-8 : tie.Need-same-length-8 Inv-loop μ-loop
 same-length-8 c = search needs
+
+same-length-9 : tie.Need-same-length-9 Inv-loop μ-loop
+same-length-9 c = search needs
+
+same-length-10 : tie.Need-same-length-10 Inv-loop μ-loop
+same-length-10 c = search needs
+
+same-length-11 : tie.Need-same-length-11 Inv-loop μ-loop
+same-length-11 c = search needs
+
+same-length-12 : tie.Need-same-length-12 Inv-loop μ-loop
+same-length-12 c = search needs
 
 returns-2 : tie.Need-returns-2 Inv-loop μ-loop
 returns-2 c = search needs
@@ -69,12 +81,16 @@ run-spec =
     same-length-2
     same-length-3
     same-length-4
+    same-length-5
+    same-length-6
     returns
     add-counter
     loop-less
     loop-again
-    same-length-5
-    same-length-6
     same-length-7
     same-length-8
+    same-length-9
+    same-length-10
+    same-length-11
+    same-length-12
     returns-2)

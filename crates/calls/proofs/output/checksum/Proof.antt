@@ -5,7 +5,9 @@ use native.Mathlib.Omega.{arith}
 use borrow.Author.Needs.{needs, sfits-of}
 use lib.ListN.{length}
 use mir.Facts.{toZ-ofZ}
-use Rattle.calls.specs.Checksum.{checksumTo, checksum-below, checksum-none, checksum-more}
+use Rattle.meaning.specs.Extension.{emod}
+use Rattle.theory.specs.HalfSample.{emod-below}
+use Rattle.calls.specs.Checksum.{modulus, checksumTo, checksum-below, checksum-none, checksum-more}
 use Rattle.calls.proofs.output.checksum.Statement.{statement}
 use Rattle.calls.proofs.output.checksum.Tie as tie
 
@@ -18,16 +20,19 @@ abbrev μ-loop : tie.MeasureT-loop
 loop-holds : tie.Need-loop-holds Inv-loop μ-loop
 loop-holds c = (search needs, checksum-none (c .args .values .now))
 
-mul-gain : tie.Need-mul-gain Inv-loop μ-loop
-mul-gain c = search needs
+mul-residue : tie.Need-mul-residue Inv-loop μ-loop
+mul-residue c = search needs
 
-shared-slice-copy-out-gain : tie.Need-shared-slice-copy-out-gain Inv-loop μ-loop
-shared-slice-copy-out-gain c = search needs
+shared-slice-copy-out-residue : tie.Need-shared-slice-copy-out-residue Inv-loop μ-loop
+shared-slice-copy-out-residue c = search needs
+
+residue-requires : tie.Need-residue-requires Inv-loop μ-loop
+residue-requires c κs = search needs
 
 gain-requires : tie.Need-gain-requires Inv-loop μ-loop
 gain-requires c κs =
-    let f = c .before .before .before .args .values .now in
-    (omega (arith, checksum-below f (c .before .before .loop .i)), omega arith)
+    let f = c .before .before .before .before .args .values .now in
+    (omega (arith, checksum-below f (c .before .before .before .loop .i)), omega arith, rw (c .residue .ensures) (emod-below _ (omega arith)))
 
 add-i : tie.Need-add-i Inv-loop μ-loop
 add-i c = search needs
@@ -37,10 +42,10 @@ loop-less c = search needs
 
 loop-again : tie.Need-loop-again Inv-loop μ-loop
 loop-again c =
-    let f = c .before .before .before .before .args .values .now in
-    let i = c .before .before .before .loop .i in
-    let earlier = c .before .before .before .loop .inv .1 in
-    (omega arith, checksum-more f i earlier (toZ-ofZ (sfits-of (c .before .gain-arg .given))) (c .gain .ensures))
+    let f = c .before .before .before .before .before .args .values .now in
+    let i = c .before .before .before .before .loop .i in
+    let earlier = c .before .before .before .before .loop .inv .1 in
+    (omega arith, checksum-more f i earlier (c .before .residue .ensures ∙ ap (λ z. emod z modulus) (toZ-ofZ (sfits-of (c .before .before .residue-arg .given)))) (c .gain .ensures))
 
 returns : tie.Need-returns Inv-loop μ-loop
 returns c =
@@ -55,8 +60,9 @@ checksum-spec =
     Inv-loop
     μ-loop
     loop-holds
-    mul-gain
-    shared-slice-copy-out-gain
+    mul-residue
+    shared-slice-copy-out-residue
+    residue-requires
     gain-requires
     add-i
     loop-less

@@ -1,0 +1,41 @@
+-- All slices are of one length.
+use borrow.Author.Needs.{needs}
+use Rattle.calls.proofs.main.Statement.{statement}
+use Rattle.calls.proofs.main.Tie as tie
+
+slice-aggregate-run : tie.Need-slice-aggregate-run
+slice-aggregate-run c = search needs
+
+slice-aggregate-run-2 : tie.Need-slice-aggregate-run-2
+slice-aggregate-run-2 c = search needs
+
+slice-aggregate-run-3 : tie.Need-slice-aggregate-run-3
+slice-aggregate-run-3 c = search needs
+
+slice-aggregate-run-4 : tie.Need-slice-aggregate-run-4
+slice-aggregate-run-4 c = search needs
+
+slice-aggregate-run-5 : tie.Need-slice-aggregate-run-5
+slice-aggregate-run-5 c = search needs
+
+slice-aggregate-run-6 : tie.Need-slice-aggregate-run-6
+slice-aggregate-run-6 c = search needs
+
+run-requires : tie.Need-run-requires
+run-requires c κs = (search needs, search needs)
+
+returns : tie.Need-returns
+returns c = search needs
+
+pub main-spec : {M : Type 1} → statement M
+main-spec =
+    tie.close
+    (tie.spec
+    slice-aggregate-run
+    slice-aggregate-run-2
+    slice-aggregate-run-3
+    slice-aggregate-run-4
+    slice-aggregate-run-5
+    slice-aggregate-run-6
+    run-requires
+    returns)
