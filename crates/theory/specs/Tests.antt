@@ -12,7 +12,7 @@ use lib.Dec.{leb, ltb, eqb}
 use lib.ListN.{length, replicate, getD}
 use lib.IntN.{ℤ}
 use lib.Signed.{_≤ℤ_, _<ℤ_, ltZ, ltZ-yes, ltZ-no, clashℤ}
-use borrow.Author.Tests.{ltb-false, lt-ltb, le-ltb, lt-leb, le-leb, eqb-true, eq-eqb}
+use borrow.Author.Tests.{ltb-false, lt-ltb, le-ltb, lt-leb, le-leb, eqb-true, eq-eqb, not-false}
 use Rattle.meaning.specs.Refusals.{some, outside, differs, within}
 
 pub or-no : (a b : Bool) → (a || b) ≡ false → (a ≡ false) × (b ≡ false)
@@ -111,11 +111,7 @@ pub no-outside : {low high x : ℕ} → low ≤ x → x ≤ high → outside low
 no-outside {low} {high} {x} h k = no-or (le-ltb x low h) (le-ltb high x k)
 
 pub differs-no : (n asked : ℕ) → differs n asked ≡ false → n ≡ asked
-differs-no n asked e = eqb-true n asked (not-not (eqb n asked) e)
-  where
-    not-not : (b : Bool) → not b ≡ false → b ≡ true
-    not-not true e = refl
-    not-not false e = absurd (true≢false e)
+differs-no n asked e = eqb-true n asked (not-false (eqb n asked) e)
 
 pub no-differs : {n asked : ℕ} → n ≡ asked → differs n asked ≡ false
 no-differs {n} {asked} e = ap not (eq-eqb n asked e)
