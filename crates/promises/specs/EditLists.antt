@@ -4,8 +4,7 @@
 --   written f cs       what the accepted of cs say of the samples f
 --   edits-fresh        demand 3: from samples and their smoothing, any edits lead to samples that hold what the accepted edits say, and to the smoothing of those
 --   edits-never-12     and where no sample is above the bound, none ever gets so, and no call answers 12
---   SmoothCall         a call of smoothing, as its contract lets it end;  call x  what it was given, answered and left;  smoothed x  its samples, and the results left
---   smoothing-fresh    where it is done, it leaves a fresh smoothing
+--   smoothed x         the samples of a call of smoothing, and the results left; where it is done they are a fresh smoothing: that is done-whole, of SmoothSeries
 --   edits-smoothing    after any edits of a fresh smoothing, a call that smooths the samples then held, under any bound, and is done leaves just the results then stored
 --   edits-smoothed     smooth, edit, smooth again, under one plan and bound: where the first is done, so is the last with slices of the asked lengths, and leaves just the results then stored
 use Prim.Native.Nat.{ℕ}
@@ -16,15 +15,11 @@ use mathlib.Core.List.{List, [], _∷_}
 use lib.Dec.{eqb}
 use lib.ListN.{length, set, length-set}
 use lib.IntN.{ℤ}
-use contract.Lifetimes.{Lfts}
-use denote.Triple.Clauses.{AtExit}
-use borrow.Fn.Kinds.{Dens, resT, endedOf}
 use Rattle.meaning.specs.Bounds.{AllowedLength, AllowedSeries}
 use Rattle.plan.specs.declared.Plan.{Plan}
 use Rattle.plan.specs.Structs.{stagesOf}
-use Rattle.series.proofs.smooth_series.Reads as smooth-series
-use Rattle.series.proofs.smooth_series.Kinds as kinds
 use Rattle.promises.specs.SmoothSeries as smooth
+use Rattle.promises.specs.SmoothSeries.{SeriesCall, done-allowed, done-whole}
 use Rattle.promises.specs.Edits.{EditCall, plan, bound, position, value, samples, number, samplesLeft, Stored, before, after, Fresh, Within, edit-never-12, edit-says, edit-fresh, edit-within}
 
 -- ---- any list of calls
@@ -67,35 +62,23 @@ module _ (p : Plan) (M : ℕ) where
       ((edit-never-12 c t u, v), w)
 
 -- ---- beside calls of smoothing
-pub record SmoothCall : Type 1 where
-  pub lifetimes : Lfts 3
-  pub given : Dens lifetimes kinds.ps
-  pub answered : resT kinds.r lifetimes .Denot
-  pub left : AtExit (endedOf 3 kinds.ps kinds.r) lifetimes
-  pub learnt : smooth-series.Learnt lifetimes given answered left
+abbrev pub smoothed : SeriesCall → Stored
+smoothed x = record { samples = smooth.samples x; results = smooth.resultsLeft x }
 
-abbrev pub call : SmoothCall → smooth.Call
-call x = smooth.call (x .lifetimes) (x .given) (x .answered) (x .left)
-
-abbrev pub smoothed : SmoothCall → Stored
-smoothed x = record { samples = call x .samples; results = call x .resultsLeft }
-
-pub smoothing-fresh : (x : SmoothCall) → call x .answer .number ≡ 0 → Fresh (call x .plan) (smoothed x)
-smoothing-fresh x e = smooth.done-whole (x .lifetimes) (x .given) (x .answered) (x .left) (x .learnt) e
-
-pub edits-smoothing : (p : Plan) (M : ℕ) (x : Stored) (cs : List EditCall) (y : Stored) → Edits p M x cs y → Fresh p x → (z : SmoothCall) → call z .plan ≡ p → call z .samples ≡ y .samples → call z .answer .number ≡ 0 → call z .resultsLeft ≡ y .results
-edits-smoothing p M x cs y k h z a e d = smoothing-fresh z d ∙ rw (a, e) (sym (edits-fresh p M x cs y k h .1))
+pub edits-smoothing : (p : Plan) (M : ℕ) (x : Stored) (cs : List EditCall) (y : Stored) → Edits p M x cs y → Fresh p x
+    → (z : SeriesCall) → smooth.plan z ≡ p → smooth.samples z ≡ y .samples → smooth.number z ≡ 0 → smooth.resultsLeft z ≡ y .results
+edits-smoothing p M x cs y k h z a e d = done-whole z d ∙ rw (a, e) (sym (edits-fresh p M x cs y k h .1))
 
 still-allowed : {p q : Plan} {M L N nr nw : ℕ} {f g : List ℤ} → q ≡ p → L ≡ M → f ≡ g → length g ≡ N → AllowedLength (stagesOf p) M N → Within M g → nr ≡ length g → nw ≡ length g → AllowedSeries (stagesOf q) L f nr nw
 still-allowed a b e n ok h r w = rw (a, b, e) (record { common = rw n ok; results = r; work = w; samples = h })
 
-pub edits-smoothed : (x : SmoothCall) → call x .answer .number ≡ 0 → (cs : List EditCall) (y : Stored) → Edits (call x .plan) (call x .bound) (smoothed x) cs y
-    → (z : SmoothCall) → call z .plan ≡ call x .plan → call z .bound ≡ call x .bound → call z .samples ≡ y .samples → length (call z .results) ≡ length (y .samples) → length (call z .work) ≡ length (y .samples)
-    → (call z .answer .number ≡ 0) × (call z .resultsLeft ≡ y .results)
+pub edits-smoothed : (x : SeriesCall) → smooth.number x ≡ 0 → (cs : List EditCall) (y : Stored) → Edits (smooth.plan x) (smooth.bound x) (smoothed x) cs y
+    → (z : SeriesCall) → smooth.plan z ≡ smooth.plan x → smooth.bound z ≡ smooth.bound x → smooth.samples z ≡ y .samples → length (smooth.results z) ≡ length (y .samples) → length (smooth.work z) ≡ length (y .samples)
+    → (smooth.number z ≡ 0) × (smooth.resultsLeft z ≡ y .results)
 edits-smoothed x d cs y k z p M f r w =
-    let fresh = smoothing-fresh x d in
-    let ok = smooth.done-allowed (x .lifetimes) (x .given) (x .answered) (x .left) (x .learnt) d in
-    let long = ap length (edits-fresh (call x .plan) (call x .bound) (smoothed x) cs y k fresh .0) ∙ length-written (call x .samples) cs in
-    let inside = edits-never-12 (call x .plan) (call x .bound) (smoothed x) cs y k fresh (ok .samples) .1 in
-    let done = smooth.allowed-done (z .lifetimes) (z .given) (z .answered) (z .left) (z .learnt) (still-allowed p M f long (ok .common) inside r w) in
-    (done, edits-smoothing (call x .plan) (call x .bound) (smoothed x) cs y k fresh z p f done)
+    let fresh = done-whole x d in
+    let ok = done-allowed x .0 d in
+    let long = ap length (edits-fresh (smooth.plan x) (smooth.bound x) (smoothed x) cs y k fresh .0) ∙ length-written (smooth.samples x) cs in
+    let inside = edits-never-12 (smooth.plan x) (smooth.bound x) (smoothed x) cs y k fresh (ok .samples) .1 in
+    let done = done-allowed z .1 (still-allowed p M f long (ok .common) inside r w) in
+    (done, edits-smoothing (smooth.plan x) (smooth.bound x) (smoothed x) cs y k fresh z p f done)

@@ -7,7 +7,7 @@
 --   Near c i           sample i is within reach of the position
 --   result c           the result at the position: the sum over m of K-fold tap m times the extension at n - m
 --   Whole z x          the double x is the whole number z, exactly
---   Exactly            as of Smoothings;  Stored, Fresh   as of Edits;  SmoothCall, call   as of EditLists
+--   Exactly            as of Smoothings;  Stored, Fresh   as of Edits;  SeriesCall   as of SmoothSeries
 --   point-case         the enum is its value case exactly where the number is 0, else its refused case
 --   point-lowest       the number is 0, or that of a row that applies, and then the lowest of those
 --   point-done, point-allowed   it is 0 exactly where no row applies, and exactly where the bounds hold
@@ -64,8 +64,10 @@ use Rattle.plan.specs.Structs.{stagesOf, pointAnswer, pointValue, pointOf, poin
 use Rattle.point.proofs.point.Reads as point
 use Rattle.point.proofs.point.Kinds as kinds
 use Rattle.promises.specs.Smoothings.{Exactly}
+use Rattle.promises.specs.SmoothSeries as series
+use Rattle.promises.specs.SmoothSeries.{SeriesCall, done-whole}
 use Rattle.promises.specs.Edits.{Stored, Fresh}
-use Rattle.promises.specs.EditLists.{SmoothCall, call, smoothed, smoothing-fresh}
+use Rattle.promises.specs.EditLists.{smoothed}
 
 pub record PointCall : Type 1 where
   pub lifetimes : Lfts 2
@@ -206,8 +208,8 @@ module _ (c : PointCall) where
         let k = ap (λ (r : List ℤ). at r (position c)) (h ∙ ap (smoothing.results fold (stages c)) f) ∙ at-results fold (stages c) (samples c) (position c) (point-allowed .0 e .position) in
         point-value ∙ ap (λ (r : ℤ). ratio r (divisor (stages c))) (sym k)
 
-    pub point-smoothed : (x : SmoothCall) → call x .answer .number ≡ 0 → call x .plan ≡ plan c → call x .samples ≡ samples c → value c ≡ ratio (at (call x .resultsLeft) (position c)) (divisor (stages c))
-    point-smoothed x d p f = point-fresh (smoothed x) (subst (λ (q : Plan). Fresh q (smoothed x)) p (smoothing-fresh x d)) f
+    pub point-smoothed : (x : SeriesCall) → series.number x ≡ 0 → series.plan x ≡ plan c → series.samples x ≡ samples c → value c ≡ ratio (at (series.resultsLeft x) (position c)) (divisor (stages c))
+    point-smoothed x d p f = point-fresh (smoothed x) (subst (λ (q : Plan). Fresh q (smoothed x)) p (done-whole x d)) f
 
 -- ---- two calls
 abbrev answer : outcomes.Pointed → Point
