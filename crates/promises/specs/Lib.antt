@@ -13,6 +13,7 @@
 --   Planner        the planner
 --   Plans          a plan's constructor, divisor and reach
 --   Records        the job record's reader and writer, and that each undoes the other
+--   UselessBuilds  that no contract allows any of document 01's useless builds
 pub mod Smoothings
 pub mod SmoothSeries
 pub mod Pictures
@@ -27,3 +28,4 @@ pub mod Summaries
 pub mod Planner
 pub mod Plans
 pub mod Records
+pub mod UselessBuilds
