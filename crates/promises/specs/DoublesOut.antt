@@ -10,7 +10,6 @@
 use Prim.Native.Nat.{ℕ, _<_}
 use mathlib.Core.Path.{_≡_, ap, _∙_}
 use mathlib.Core.Bool.{false}
-use mathlib.Core.List.{List}
 use native.Mathlib.Nat.{le-trans}
 use lib.ListN.{length, getD}
 use lib.IntN.{ℤ, pos, natAbs}
@@ -23,7 +22,7 @@ use denote.Triple.Clauses.{AtExit}
 use borrow.Fn.Kinds.{Dens, resT, endedOf}
 use Rattle.meaning.specs.Extension.{at}
 use Rattle.meaning.specs.Refusals.{seriesOf, pictureOf}
-use Rattle.meaning.specs.Values.{ratio, plusZero, doublesSeries, doublesPicture}
+use Rattle.meaning.specs.Values.{ratio, plusZero}
 use Rattle.meaning.specs.Bounds.{AllowedSeriesOut, AllowedPictureOut}
 use Rattle.theory.specs.Values.{whole-exact, count-exact, ratio-zero}
 use Rattle.plan.specs.declared.Plan.{Plan}

@@ -1,6 +1,7 @@
 -- Putting results out: what holds of whole numbers and of doubles, of a series and of a picture alike.
 --   Output g         an outcome that a call's contract allows: shape, bound, results and cells as given; answer, and the cells left. g makes a cell of a result and the divisor,
 --                    which is not 0 where the call is done
+--   rows             its rows of the table of numbers
 --   output-lowest    the number is 0, or that of a row that applies, and then the lowest of those
 --   output-done      it is 0 exactly where no row applies
 --   output-place-12, output-place-other   at 12 the place is that of the first result above M times the divisor, else 0

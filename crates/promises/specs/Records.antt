@@ -5,7 +5,7 @@
 --   Typed              what the types of the writer's arguments say; of a slice of bytes, `Bytes`
 --   bytes, job, read   what a reader was given and answered, and the fields that it answered
 --   cut, from, size, stretched   what was given for a stretch, and answered;  searched, index  what was given for a sample
---   written, count, room, roomLeft   what a writer was given, and left
+--   written, count, room, roomLeft   what a writer was given, and left;  rows  its rows of the table of numbers
 --   read-number        the reader's number is 0 or 14
 --   read-refused       at 14 every number is 0 and the stretch is empty
 --   accepted-record, record-accepted   it is 0 exactly where the bytes are a record: no other tags, orders, lengths or trailing bytes

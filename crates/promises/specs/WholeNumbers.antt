@@ -9,7 +9,6 @@
 --   whole-series-one, whole-picture-one   two outcomes that the contract allows are the same
 use Prim.Native.Nat.{ℕ, _*_, _≤_, _<_}
 use mathlib.Core.Path.{_≡_}
-use mathlib.Core.List.{List}
 use lib.ListN.{length}
 use lib.IntN.{ℤ, pos, natAbs, _-ℤ_, _*ℤ_}
 use lib.Signed.{_≤ℤ_}
@@ -19,7 +18,7 @@ use denote.Triple.Clauses.{AtExit}
 use borrow.Fn.Kinds.{Dens, resT, endedOf}
 use Rattle.meaning.specs.Extension.{at}
 use Rattle.meaning.specs.Refusals.{seriesOf, pictureOf}
-use Rattle.meaning.specs.Values.{nearest, wholeSeries, wholePicture}
+use Rattle.meaning.specs.Values.{nearest}
 use Rattle.meaning.specs.Bounds.{AllowedSeriesOut, AllowedPictureOut}
 use Rattle.theory.specs.Nearest.{nearest-nearest, nearest-half, nearest-size}
 use Rattle.plan.specs.declared.Plan.{Plan}
