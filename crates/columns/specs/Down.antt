@@ -32,7 +32,7 @@ use Rattle.theory.specs.Fill.{fill-at, fill-next, fill-part}
 use Rattle.theory.specs.Picture.{length-row, row-inside, row-part, ext-column, sized-column, length-down, cell-passed}
 use Rattle.plan.specs.declared.Plan.{Plan}
 use Rattle.plan.specs.Structs.{stageOf}
-use Rattle.series.specs.Turn.{Roomy, room-step, room-fits}
+use Rattle.pass.specs.Turn.{Roomy, room-step, room-fits}
 use Rattle.columns.specs.Ready.{Passable, passed, added, Addable, Begins, stepped}
 
 abbrev pub line : ℕ → ℕ → List ℤ → ℕ → ℤ → ℤ

@@ -21,7 +21,7 @@ fn row_at(n: usize, d: usize, width: usize, height: usize) -> usize
     requires { ⌜ width * height ≤ maxLength ⌝ }
     ensures { λ r. ⌜ Begins width height (pos n -ℤ pos d) r ⌝ }
 {
-    series::inner::fold_behind(n, d, height) * width
+    extension::inner::fold_behind(n, d, height) * width
 }
 
 // Adds to each cell of row its weighted cell of the row of src that begins at start.
@@ -46,7 +46,7 @@ fn first_row(plan: Plan, width: usize, height: usize, src: &[i64], row: &mut [i6
     let radius = plan.radius as usize;
     let inner = plan.inner as i64;
     let edge = plan.edge as i64;
-    series::inner::clear(row);
+    pass::inner::clear(row);
     let mut k: usize = 0;
     while k < 2 * radius + 1 {
         let start = row_at(k, radius, width, height);

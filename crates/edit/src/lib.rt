@@ -44,6 +44,6 @@ pub fn edit_series(
         return edited;
     }
     samples[position] = value as i32;
-    series::inner::clear(work);
+    pass::inner::clear(work);
     edited
 }

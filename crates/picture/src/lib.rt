@@ -47,6 +47,6 @@ pub fn smooth_picture(
         results,
         work,
     );
-    series::inner::clear(work);
+    pass::inner::clear(work);
     answer
 }

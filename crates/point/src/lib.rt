@@ -18,6 +18,6 @@ pub fn point(plan: Plan, bound: u64, position: usize, samples: &[i32], work: &mu
         return Point::Refused(answer.number, answer.position);
     }
     let result = summing::result(plan, samples, position);
-    series::inner::clear(work);
+    pass::inner::clear(work);
     Point::Value(values::inner::ratio(result, plan.divisor()))
 }

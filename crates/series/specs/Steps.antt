@@ -29,7 +29,8 @@ use Rattle.plan.specs.declared.Plan.{Plan}
 use Rattle.plan.specs.Structs.{stageOf, stagesOf}
 use Rattle.plan.specs.Tested.{allowed-tested}
 use Rattle.series.specs.Contract.{Gives}
-use Rattle.series.specs.Ready.{Ready, Passable, after}
+use Rattle.pass.specs.Ready.{Passable}
+use Rattle.series.specs.Ready.{Ready, after}
 
 -- ---- the test of any shape, in the two parts that code makes: where row 7 applies, row 8 does not matter
 module _ (s : Shape) (M : ℕ) (f : List ℤ) (nr nw : ℕ) where

@@ -24,6 +24,6 @@ pub fn smooth_series(
         return answer;
     }
     inner::smooth_into(plan, plan.passes, samples, results, work);
-    inner::clear(work);
+    pass::inner::clear(work);
     answer
 }

@@ -29,7 +29,7 @@ use Rattle.theory.specs.Sizes.{kernel-size}
 use Rattle.plan.specs.declared.Plan.{Plan}
 use Rattle.plan.specs.Structs.{stageOf, stagesOf}
 use Rattle.plan.specs.Tested.{Tested, allowed-tested}
-use Rattle.series.specs.Turn.{Roomy}
+use Rattle.pass.specs.Turn.{Roomy}
 
 unfoldable pub mirrored : List ℤ → ℤ → ℤ
 mirrored xs i = at xs (natAbs i)

@@ -11,7 +11,7 @@ ghost use Rattle.meaning.specs.Smoothing as S;
 ghost use Rattle.meaning.specs.Bounds.{AcceptedPlan};
 ghost use Rattle.theory.specs.Slide.{window};
 ghost use Rattle.plan.specs.Structs.{stageOf, stagesOf};
-ghost use Rattle.series.specs.Turn.{Windowed};
+ghost use Rattle.pass.specs.Turn.{Windowed};
 ghost use Rattle.taps.specs.Taps.{mirrored, staged, tapsOf, Held, Stageable, Ready};
 ghost use Rattle.taps.specs.Weigh.{stridedIn, weightIn, Stridable, Weighable};
 use plan::Plan;
@@ -75,9 +75,9 @@ fn stage_more(plan: Plan, src: &[i64], dst: &mut [i64])
     while n < src.len() {
         let first = tap_at(src, apart(n, radius));
         let hi = tap_at(src, n + radius + 1);
-        let v = series::inner::cell(inner, edge, w, lo, hi);
+        let v = pass::inner::cell(inner, edge, w, lo, hi);
         dst[n] = v;
-        w = series::inner::slide(w, hi, first);
+        w = pass::inner::slide(w, hi, first);
         lo = first;
         n += 1;
     }
@@ -88,7 +88,7 @@ fn no_stages(dst: &mut [i64])
     requires { ⌜ 1 ≤ length (now dst) ⌝ }
     ensures { λ _. ⌜ now (dst .exit) ≡ tapsOf (length (now (dst .entry))) [] ⌝ }
 {
-    series::inner::clear(dst);
+    pass::inner::clear(dst);
     dst[0] = 1;
 }
 

@@ -11,7 +11,7 @@ use Rattle.series.proofs.inner.smooth_into.Reads as smooth-into
 use Rattle.series.proofs.inner.smooth_into.Kinds as kinds
 use Rattle.series.proofs.inner.+smooth_into.Lts-smooth_into as lts
 use Rattle.series.proofs.inner.load.Reads as load
-use Rattle.series.proofs.inner.pass.Reads as pass
+use Rattle.pass.proofs.inner.pass.Reads as pass
 use Rattle.series.proofs.inner.+smooth_into.{statement}
 use Rattle.series.proofs.inner.+smooth_into.Tie.{close}
 

@@ -9,7 +9,7 @@ use mir.Val.{toZ, ofZ}
 use mir.Facts.{toZ-ofZ}
 use borrow.Author.Needs.{needs, sfits-of}
 use Rattle.theory.specs.Slide.{window, window-none}
-use Rattle.series.specs.Turn.{Widening, pair-fits, widened-is, widened-fits}
+use Rattle.pass.specs.Turn.{Widening, pair-fits, widened-is, widened-fits}
 use Rattle.taps.specs.Taps.{mirrored}
 use Rattle.taps.proofs.inner.first_window.Statement.{statement}
 use Rattle.taps.proofs.inner.first_window.Tie as tie

@@ -11,7 +11,7 @@ use borrow.Author.Needs.{needs, sfits-of}
 use Rattle.theory.specs.Slide.{window}
 use Rattle.theory.specs.Fill.{fill-next, fill-done}
 use Rattle.plan.specs.Structs.{stageOf}
-use Rattle.series.specs.Turn.{Turn, windowed, cell-is, cell-fits, low-next, slide-is, slide-fits}
+use Rattle.pass.specs.Turn.{Turn, windowed, cell-is, cell-fits, low-next, slide-is, slide-fits}
 use Rattle.taps.specs.Taps.{mirrored, staged, mirrored-apart, length-staged, at-staged}
 use Rattle.taps.proofs.inner.stage_more.Statement.{statement}
 use Rattle.taps.proofs.inner.stage_more.Tie as tie

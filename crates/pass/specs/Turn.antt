@@ -24,7 +24,7 @@ use Rattle.theory.specs.Sizes.{ext-size}
 use Rattle.theory.specs.Slide.{window, window-grow, window-slide, window-size, passAt-window, Step, step-size}
 use Rattle.plan.specs.declared.Plan.{Plan}
 use Rattle.plan.specs.Structs.{stageOf}
-use Rattle.series.specs.Ready.{Summable, Passable}
+use Rattle.pass.specs.Ready.{Summable, Passable}
 
 pub record Windowed (r : ℕ) (e : ℤ → ℤ) : Type 0 where
   pub largest : ℕ

@@ -14,9 +14,9 @@ use Rattle.theory.specs.Passes.{length-pass, at-pass}
 use Rattle.theory.specs.Slide.{window}
 use Rattle.theory.specs.Fill.{fill-next, fill-done}
 use Rattle.plan.specs.Structs.{stageOf}
-use Rattle.series.specs.Turn.{Turn, cell-is, cell-fits, low-next, slide-is, slide-fits, pass-room, summable}
-use Rattle.series.proofs.inner.pass.Statement.{statement}
-use Rattle.series.proofs.inner.pass.Tie as tie
+use Rattle.pass.specs.Turn.{Turn, cell-is, cell-fits, low-next, slide-is, slide-fits, pass-room, summable}
+use Rattle.pass.proofs.inner.pass.Statement.{statement}
+use Rattle.pass.proofs.inner.pass.Tie as tie
 
 abbrev Inv-loop : tie.InvT-loop
 Inv-loop src dst₀ radius inner edge w₀ lo₀ n₀ dst w lo n =

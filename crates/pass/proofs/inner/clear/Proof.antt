@@ -6,8 +6,8 @@ use lib.ListN.{length, take, replicate, length-set, length-replicate, getD-repli
 use lib.IntN.{pos}
 use borrow.Author.Needs.{needs}
 use Rattle.theory.specs.Fill.{fill-next, fill-done}
-use Rattle.series.proofs.inner.clear.Statement.{statement}
-use Rattle.series.proofs.inner.clear.Tie as tie
+use Rattle.pass.proofs.inner.clear.Statement.{statement}
+use Rattle.pass.proofs.inner.clear.Tie as tie
 
 abbrev Inv-loop : tie.InvT-loop
 Inv-loop dst₀ i₀ dst i = (i ≤ length dst₀) × (length dst ≡ length dst₀) × (take i dst ≡ take i (replicate (length dst₀) (pos 0)))

@@ -7,8 +7,8 @@ use borrow.Author.Needs.{needs}
 use Rattle.algebra.specs.Difference.{⊖-is, ⊖-negsuc, sub-pos}
 use Rattle.meaning.specs.Extension.{fold}
 use Rattle.theory.specs.HalfSample.{fold-negsuc}
-use Rattle.series.proofs.inner.fold_behind.Statement.{statement}
-use Rattle.series.proofs.inner.fold_behind.Tie as tie
+use Rattle.extension.proofs.inner.fold_behind.Statement.{statement}
+use Rattle.extension.proofs.inner.fold_behind.Tie as tie
 
 fold-at-requires : tie.Need-fold-at-requires
 fold-at-requires c κs = search needs

@@ -7,8 +7,8 @@ use mir.Facts.{toZ-ofZ}
 use borrow.Author.Needs.{needs, sfits-of}
 use Rattle.meaning.specs.Extension.{at, ext}
 use Rattle.theory.specs.HalfSample.{half-sample}
-use Rattle.series.proofs.inner.behind.Statement.{statement}
-use Rattle.series.proofs.inner.behind.Tie as tie
+use Rattle.extension.proofs.inner.behind.Statement.{statement}
+use Rattle.extension.proofs.inner.behind.Tie as tie
 
 fold-behind-requires : tie.Need-fold-behind-requires
 fold-behind-requires c κs = search needs

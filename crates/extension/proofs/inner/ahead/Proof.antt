@@ -4,8 +4,8 @@ use lib.IntN.{pos, +ℤ-idr}
 use mir.Facts.{toZ-ofZ}
 use borrow.Author.Needs.{needs, sfits-of}
 use Rattle.meaning.specs.Extension.{fold, ext}
-use Rattle.series.proofs.inner.ahead.Statement.{statement}
-use Rattle.series.proofs.inner.ahead.Tie as tie
+use Rattle.extension.proofs.inner.ahead.Statement.{statement}
+use Rattle.extension.proofs.inner.ahead.Tie as tie
 
 behind-requires : tie.Need-behind-requires
 behind-requires c κs = search needs

@@ -6,8 +6,8 @@ use native.Mathlib.Omega.{arith}
 use borrow.Author.Needs.{needs}
 use Rattle.meaning.specs.Extension.{emod, fold}
 use Rattle.theory.specs.HalfSample.{reflect-low, reflect-high, half-sample}
-use Rattle.series.proofs.inner.fold_at.Statement.{statement}
-use Rattle.series.proofs.inner.fold_at.Tie as tie
+use Rattle.extension.proofs.inner.fold_at.Statement.{statement}
+use Rattle.extension.proofs.inner.fold_at.Tie as tie
 
 returns : tie.Need-returns
 returns c = sym (half-sample .here (c .if1 .taken))

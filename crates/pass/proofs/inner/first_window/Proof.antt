@@ -10,9 +10,9 @@ use borrow.Author.Needs.{needs, sfits-of}
 use Rattle.meaning.specs.Extension.{fold, ext}
 use Rattle.theory.specs.HalfSample.{ext-negsuc}
 use Rattle.theory.specs.Slide.{window, window-none}
-use Rattle.series.specs.Turn.{Widening, pair-fits, widened-is, widened-fits, window-room}
-use Rattle.series.proofs.inner.first_window.Statement.{statement}
-use Rattle.series.proofs.inner.first_window.Tie as tie
+use Rattle.pass.specs.Turn.{Widening, pair-fits, widened-is, widened-fits, window-room}
+use Rattle.pass.proofs.inner.first_window.Statement.{statement}
+use Rattle.pass.proofs.inner.first_window.Tie as tie
 
 abbrev Inv-loop : tie.InvT-loop
 Inv-loop src radius lo₀ s₀ j₀ lo s j = (j ≤ radius) × (toZ w64 lo ≡ ext fold src (pos j)) × (toZ w64 s ≡ window (ext fold src) j (pos 0))

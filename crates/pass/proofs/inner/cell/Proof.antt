@@ -1,8 +1,8 @@
 -- Every number on the way fits, as asked.
 use mir.Facts.{toZ-ofZ}
 use borrow.Author.Needs.{needs}
-use Rattle.series.proofs.inner.cell.Statement.{statement}
-use Rattle.series.proofs.inner.cell.Tie as tie
+use Rattle.pass.proofs.inner.cell.Statement.{statement}
+use Rattle.pass.proofs.inner.cell.Tie as tie
 
 mul-result : tie.Need-mul-result
 mul-result c = search needs

@@ -1,0 +1,2 @@
+// Reading a series beyond its ends.
+pub mod inner;

@@ -1,0 +1,2 @@
+// A pass over a series.
+pub mod inner;
