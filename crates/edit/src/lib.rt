@@ -6,8 +6,6 @@ ghost use Rattle.edit.specs.Contract.{Gives};
 use plan::Edited;
 use plan::Plan;
 
-mod gains;
-mod holding;
 mod testing;
 
 // Sets sample `position` to the value, gives each result within reach its gain, and leaves zeros in work. A refused call changes no cell.
@@ -39,7 +37,7 @@ pub fn edit_series(
         };
     }
     let change = value - samples[position] as i64;
-    let edited = holding::edit_results(plan, bound, position, change, results);
+    let edited = stored::inner::edit_results(plan, bound, position, change, results);
     if edited.number != 0 {
         return edited;
     }

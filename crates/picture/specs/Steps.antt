@@ -25,7 +25,8 @@ use Rattle.plan.specs.declared.Plan.{Plan}
 use Rattle.plan.specs.Structs.{stageOf, stagesOf}
 use Rattle.plan.specs.Tested.{allowed-tested}
 use Rattle.columns.specs.Ready.{Passable}
-use Rattle.picture.specs.Ready.{Ready, RowsReady, after}
+use Rattle.rows.specs.Rows.{RowsReady}
+use Rattle.picture.specs.Ready.{Ready, after}
 
 -- ---- what an answer of 0 leaves
 pub ready : (p q : Plan) (M W H : ℕ) (f : List ℤ) (nr nw : ℕ) {a : Answer} → a ≡ firstOf (smoothRows (pictureOf (stagesOf p) (stagesOf q) W H) M f nr nw) → a .number ≡ 0 → Ready p q W H f nr nw

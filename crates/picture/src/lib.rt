@@ -6,7 +6,6 @@ ghost use Rattle.series.specs.Contract.{Gives};
 use plan::Answer;
 use plan::Plan;
 
-mod rows;
 mod smoothing;
 mod testing;
 

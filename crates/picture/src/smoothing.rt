@@ -3,7 +3,6 @@ ghost use mathlib.Core.Path.{_≡_};
 ghost use Prim.Native.Nat.{_≤_};
 ghost use lib.ListN.{length};
 ghost use Rattle.picture.specs.Ready.{Ready, after};
-use crate::rows;
 use plan::Plan;
 
 // All passes across and k passes down, of the samples into dst. The pass before stands in the other slice.
@@ -21,7 +20,7 @@ pub(crate) fn smooth_into(
     ensures { λ _. ⌜ now (dst .exit) ≡ after k across down width height (now (samples .entry)) ⌝ }
 {
     if k == 0 {
-        rows::smooth_rows(across, width, height, samples, dst, other);
+        rows::inner::smooth_rows(across, width, height, samples, dst, other);
         return;
     }
     smooth_into(across, down, k - 1, width, height, samples, other, dst);

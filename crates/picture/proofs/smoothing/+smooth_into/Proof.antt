@@ -10,7 +10,7 @@ use Rattle.picture.specs.Steps.{swapped, rows-ready, passable, after-non
 use Rattle.picture.proofs.smoothing.smooth_into.Reads as smooth-into
 use Rattle.picture.proofs.smoothing.smooth_into.Kinds as kinds
 use Rattle.picture.proofs.smoothing.+smooth_into.Lts-smooth_into as lts
-use Rattle.picture.proofs.rows.smooth_rows.Reads as smooth-rows
+use Rattle.rows.proofs.inner.smooth_rows.Reads as smooth-rows
 use Rattle.columns.proofs.inner.pass.Reads as pass
 use Rattle.picture.proofs.smoothing.+smooth_into.{statement}
 use Rattle.picture.proofs.smoothing.+smooth_into.Tie.{close}

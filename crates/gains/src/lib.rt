@@ -1,0 +1,2 @@
+// The results of an edit by its taps.
+pub mod inner;

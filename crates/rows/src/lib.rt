@@ -1,0 +1,2 @@
+// The rows of a picture.
+pub mod inner;

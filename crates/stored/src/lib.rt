@@ -1,0 +1,2 @@
+// The stored results of an edit.
+pub mod inner;
