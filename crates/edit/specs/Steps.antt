@@ -2,33 +2,19 @@
 -- Laws: position-inside, value-fits, change-fits, editable (what rows 1 to 11 leave); call-refused, call-too-large, call-done.
 use Prim.Native.Nat.{ℕ, _+_, _*_, _-_, _≤_, _<_}
 use mathlib.Core.Path.{_≡_, refl, sym, _∙_, ap}
-use mathlib.Core.Bool.{_&&_, _||_}
-use mathlib.Core.List.{List, [], _∷_}
+use mathlib.Core.List.{List}
 use native.Mathlib.Omega.{arith}
 use lib.ListN.{length, set}
-use lib.IntN.{ℤ, pos, natAbs, _+ℤ_, _-ℤ_, _*ℤ_}
+use lib.IntN.{ℤ, natAbs, _-ℤ_}
 use mir.Syntax.{w32, w64}
 use mir.Val.{SFits}
-use Rattle.algebra.specs.Size.{Abs, abs-weaken, abs--, abs-*, fits-abs}
+use Rattle.algebra.specs.Size.{Abs, abs--, fits-abs}
 use Rattle.meaning.specs.Extension.{at, fold}
-use Rattle.meaning.specs.Kernel.{Stage, reach, divisor}
-use Rattle.meaning.specs.Smoothing.{weight, near}
-use Rattle.meaning.specs.Refusals.{Answer, firstOf, rowAt, above, ifDone, zeros}
-use Rattle.meaning.specs.Calls.{gained, changed, editRows, editSeries}
-use Rattle.meaning.specs.Bounds.{AllowedLength}
-use Rattle.theory.specs.HalfSample.{half-sample}
-use Rattle.theory.specs.Lists.{listOf-ext}
-use Rattle.theory.specs.Sizes.{weight-size}
-use Rattle.theory.specs.Local.{near-true, near-within}
-use Rattle.theory.specs.Tests.{and-when}
+use Rattle.meaning.specs.Kernel.{Stage, divisor}
+use Rattle.meaning.specs.Refusals.{Answer, firstOf, zeros}
+use Rattle.meaning.specs.Calls.{gained, editRows, editSeries}
 use Rattle.theory.specs.Refusals.{refused-first, done-rest, ifDone-done, ifDone-refused}
 use Rattle.theory.specs.AcceptedEdits.{Begun}
-use Rattle.theory.specs.Places.{picked, rowAt-ext}
-use Rattle.theory.specs.Edits.{resultRow, gained-near, changed-is}
-use Rattle.theory.specs.Accepted.{inner-allowed, length-accepted}
-use Rattle.plan.specs.Span.{low, high}
-use Rattle.taps.specs.Taps.{Held}
-use Rattle.taps.specs.Weigh.{weight-held, weighable}
 use Rattle.edit.specs.Contract.{Gives}
 use Rattle.edit.specs.Rows.{frontRows, rows-parts, front-numbered, front-allowed}
 use Rattle.stored.specs.Changes.{Changes, Editable}

@@ -3,28 +3,24 @@
 --   Editable ss M p d r   what an edit of the results asks: the bounds of document 01, and a change of size up to twice the bound
 -- Laws: gainable, changes-held (by taps that hold the kernel, the gains are the definition's).
 use Prim.Native.Nat.{ℕ, _+_, _*_, _-_, _≤_, _<_}
-use mathlib.Core.Path.{_≡_, refl, sym, _∙_, ap}
+use mathlib.Core.Path.{_≡_, sym, _∙_, ap}
 use mathlib.Core.Bool.{_&&_, _||_}
 use mathlib.Core.List.{List, [], _∷_}
 use native.Mathlib.Omega.{arith}
-use lib.ListN.{length, set}
-use lib.IntN.{ℤ, pos, natAbs, _+ℤ_, _-ℤ_, _*ℤ_}
-use mir.Syntax.{w32, w64}
-use mir.Val.{SFits}
-use Rattle.algebra.specs.Size.{Abs, abs-weaken, abs--, abs-*, fits-abs}
+use lib.ListN.{length}
+use lib.IntN.{ℤ, pos, natAbs, _+ℤ_, _*ℤ_}
+use Rattle.algebra.specs.Size.{abs-weaken, abs-*}
 use Rattle.meaning.specs.Extension.{at, fold}
 use Rattle.meaning.specs.Kernel.{Stage, reach, divisor}
 use Rattle.meaning.specs.Smoothing.{weight, near}
-use Rattle.meaning.specs.Refusals.{Answer, firstOf, rowAt, above, ifDone, zeros}
-use Rattle.meaning.specs.Calls.{gained, changed, editRows, editSeries}
+use Rattle.meaning.specs.Refusals.{Answer, firstOf, rowAt, above, ifDone}
+use Rattle.meaning.specs.Calls.{gained, changed}
 use Rattle.meaning.specs.Bounds.{AllowedLength}
 use Rattle.theory.specs.HalfSample.{half-sample}
 use Rattle.theory.specs.Lists.{listOf-ext}
 use Rattle.theory.specs.Sizes.{weight-size}
 use Rattle.theory.specs.Local.{near-true, near-within}
 use Rattle.theory.specs.Tests.{and-when}
-use Rattle.theory.specs.Refusals.{refused-first, done-rest, ifDone-done, ifDone-refused}
-use Rattle.theory.specs.AcceptedEdits.{Begun}
 use Rattle.theory.specs.Places.{picked, rowAt-ext}
 use Rattle.theory.specs.Edits.{resultRow, gained-near, changed-is}
 use Rattle.theory.specs.Accepted.{inner-allowed, length-accepted}
