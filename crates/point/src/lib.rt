@@ -19,5 +19,5 @@ pub fn point(plan: Plan, bound: u64, position: usize, samples: &[i32], work: &mu
     }
     let result = summing::result(plan, samples, position);
     pass::inner::clear(work);
-    Point::Value(values::inner::ratio(result, plan.divisor()))
+    Point::Value(doubles::inner::ratio(result, plan.divisor()))
 }

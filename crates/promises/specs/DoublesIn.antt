@@ -1,4 +1,4 @@
--- Doubles in: `values::doubles_in` by its own contract, for all inputs.
+-- Doubles in: `samples::doubles_in` by its own contract, for all inputs.
 --   DoublesCall        any call, as its contract lets it end
 --   bound, doubles, samples   what it was given
 --   number, place      what it answered
@@ -37,8 +37,8 @@ use Rattle.theory.specs.Fill.{getD-map}
 use Rattle.theory.specs.Doubles.{whole-takes, taken-size, taken-same, back-taken, minus-zero}
 use Rattle.theory.specs.AcceptedDoubles as tested
 use Rattle.plan.specs.Structs.{answerOf}
-use Rattle.values.proofs.doubles_in.Reads as doubles-in
-use Rattle.values.proofs.doubles_in.Kinds as kinds
+use Rattle.samples.proofs.doubles_in.Reads as doubles-in
+use Rattle.samples.proofs.doubles_in.Kinds as kinds
 use Rattle.promises.specs.Smoothings.{Exactly, back}
 
 pub record DoublesCall : Type 1 where

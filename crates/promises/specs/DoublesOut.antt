@@ -1,4 +1,4 @@
--- Doubles out: `values::doubles_series` and `values::doubles_picture` by their own contracts, for all inputs.
+-- Doubles out: `doubles::doubles_series` and `doubles::doubles_picture` by their own contracts, for all inputs.
 --   SeriesCall, PictureCall   any call, as its contract lets it end
 --   plan; across, down, width, height   the plan of the one; plans and sides of the other
 --   ofSeries c, ofPicture c   all that it was given, answered and left, as an Output: what Outputs says holds of both
@@ -27,10 +27,10 @@ use Rattle.meaning.specs.Bounds.{AllowedSeriesOut, AllowedPictureOut}
 use Rattle.theory.specs.Values.{whole-exact, count-exact, ratio-zero}
 use Rattle.plan.specs.declared.Plan.{Plan}
 use Rattle.plan.specs.Structs.{stagesOf, answerOf}
-use Rattle.values.proofs.doubles_series.Reads as series-call
-use Rattle.values.proofs.doubles_series.Kinds as series-kinds
-use Rattle.values.proofs.doubles_picture.Reads as picture-call
-use Rattle.values.proofs.doubles_picture.Kinds as picture-kinds
+use Rattle.doubles.proofs.doubles_series.Reads as series-call
+use Rattle.doubles.proofs.doubles_series.Kinds as series-kinds
+use Rattle.doubles.proofs.doubles_picture.Reads as picture-call
+use Rattle.doubles.proofs.doubles_picture.Kinds as picture-kinds
 use Rattle.promises.specs.Smoothings.{Exactly}
 use Rattle.promises.specs.Outputs.{Output, output-cell, output-small, output-divisor, output-series, series-divides, output-picture, picture-divides, series-inputs, picture-inputs, output-same}
 

@@ -33,7 +33,7 @@ use Rattle.theory.specs.AcceptedOutputs as tested
 use Rattle.plan.specs.declared.Answer as answered
 use Rattle.plan.specs.declared.Plan.{Plan}
 use Rattle.plan.specs.Structs.{stagesOf, answerOf}
-use Rattle.values.specs.Contract.{Gives}
+use Rattle.plan.specs.Contract.{Gives}
 use Rattle.promises.specs.Smoothings.{Exactly, back}
 
 pub record Output {A : Type 0} (g : ℤ → ℕ → A) : Type 0 where

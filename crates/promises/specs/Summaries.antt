@@ -1,4 +1,4 @@
--- The summary: `values::summary_series` and `values::summary_picture` by their own contracts, for all inputs.
+-- The summary: `summary::summary_series` and `summary::summary_picture` by their own contracts, for all inputs.
 --   SeriesCall, PictureCall   any call, as its contract lets it end
 --   plan; across, down, width, height   the plan of the one; plans and sides of the other
 --   Summing            an outcome that such a contract allows: shape, bound and results as given, and the summary answered
@@ -34,12 +34,12 @@ use Rattle.theory.specs.Extremes as extremes
 use Rattle.theory.specs.AcceptedOutputs as tested
 use Rattle.plan.specs.declared.Plan.{Plan}
 use Rattle.plan.specs.Structs.{stagesOf}
-use Rattle.values.specs.declared.Summary.{Summary}
-use Rattle.values.specs.Structs.{summaryOf}
-use Rattle.values.proofs.summary_series.Reads as series-call
-use Rattle.values.proofs.summary_series.Kinds as series-kinds
-use Rattle.values.proofs.summary_picture.Reads as picture-call
-use Rattle.values.proofs.summary_picture.Kinds as picture-kinds
+use Rattle.summary.specs.declared.Summary.{Summary}
+use Rattle.summary.specs.Structs.{summaryOf}
+use Rattle.summary.proofs.summary_series.Reads as series-call
+use Rattle.summary.proofs.summary_series.Kinds as series-kinds
+use Rattle.summary.proofs.summary_picture.Reads as picture-call
+use Rattle.summary.proofs.summary_picture.Kinds as picture-kinds
 use Rattle.promises.specs.Smoothings.{Exactly}
 
 pub record SeriesCall : Type 1 where

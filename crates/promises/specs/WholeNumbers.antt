@@ -1,4 +1,4 @@
--- Whole numbers out: `values::whole_series` and `values::whole_picture` by their own contracts, for all inputs.
+-- Whole numbers out: `whole::whole_series` and `whole::whole_picture` by their own contracts, for all inputs.
 --   SeriesCall, PictureCall   any call, as its contract lets it end
 --   plan; across, down, width, height   the plan of the one; plans and sides of the other
 --   ofSeries c, ofPicture c   all that it was given, answered and left, as an Output: what Outputs says holds of both
@@ -23,10 +23,10 @@ use Rattle.meaning.specs.Bounds.{AllowedSeriesOut, AllowedPictureOut}
 use Rattle.theory.specs.Nearest.{nearest-nearest, nearest-half, nearest-size}
 use Rattle.plan.specs.declared.Plan.{Plan}
 use Rattle.plan.specs.Structs.{stagesOf, answerOf}
-use Rattle.values.proofs.whole_series.Reads as series-call
-use Rattle.values.proofs.whole_series.Kinds as series-kinds
-use Rattle.values.proofs.whole_picture.Reads as picture-call
-use Rattle.values.proofs.whole_picture.Kinds as picture-kinds
+use Rattle.whole.proofs.whole_series.Reads as series-call
+use Rattle.whole.proofs.whole_series.Kinds as series-kinds
+use Rattle.whole.proofs.whole_picture.Reads as picture-call
+use Rattle.whole.proofs.whole_picture.Kinds as picture-kinds
 use Rattle.promises.specs.Smoothings.{Exactly}
 use Rattle.promises.specs.Outputs.{Output, output-cell, output-small, output-series, series-divides, output-picture, picture-divides, series-inputs, picture-inputs, output-same}
 
