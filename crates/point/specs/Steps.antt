@@ -23,7 +23,7 @@ use Rattle.plan.specs.Structs.{pointOf-done, pointOf-refused}
 use Rattle.plan.specs.Span.{low, high}
 use Rattle.theory.specs.Placed.{placedRows, placed-refused, placed-rest}
 use Rattle.point.specs.Contract.{Gives}
-use Rattle.point.specs.Shares.{Pointable}
+use Rattle.result.specs.Shares.{Pointable}
 
 module _ (ss : List Stage) (M n : ℕ) (f : List ℤ) (nw : ℕ) {a : Answer} (wrong : Bool) (e : a ≡ firstOf (placedRows ss M (length f) wrong n)) (w : wrong ≡ differs nw (editRoom ss (length f))) where
   pub test-refused : (a .number ≡ 0 → ⊥) → a ≡ firstOf (pointRows ss M n f nw)

@@ -6,7 +6,6 @@ ghost use Rattle.point.specs.Contract.{Gives};
 use plan::Plan;
 use plan::Point;
 
-mod summing;
 mod testing;
 
 // The result at `position` over the divisor, and zeros left in work. A refused call changes no cell.
@@ -17,7 +16,7 @@ pub fn point(plan: Plan, bound: u64, position: usize, samples: &[i32], work: &mu
     if answer.number != 0 {
         return Point::Refused(answer.number, answer.position);
     }
-    let result = summing::result(plan, samples, position);
+    let result = result::inner::result(plan, samples, position);
     pass::inner::clear(work);
     Point::Value(doubles::inner::ratio(result, plan.divisor()))
 }

@@ -8,7 +8,7 @@ use borrow.Author.Needs.{needs, sfits-of}
 use Rattle.meaning.specs.Extension.{fold}
 use Rattle.meaning.specs.Smoothing.{result}
 use Rattle.plan.specs.Structs.{stagesOf}
-use Rattle.point.specs.Shares.{Pointable, divisible}
+use Rattle.result.specs.Shares.{Pointable, divisible}
 use Rattle.point.specs.Steps.{pointable, call-refused, call-done}
 use Rattle.point.proofs.point.Statement.{statement}
 use Rattle.point.proofs.point.Tie as tie

@@ -4,9 +4,9 @@ use native.Mathlib.Omega.{arith}
 use borrow.Author.Needs.{needs, sfits-of}
 use mir.Facts.{toZ-ofZ}
 use Rattle.theory.specs.Accepted.{length-accepted}
-use Rattle.point.specs.Shares.{summable, summed-result}
-use Rattle.point.proofs.summing.with_taps.Statement.{statement}
-use Rattle.point.proofs.summing.with_taps.Tie as tie
+use Rattle.result.specs.Shares.{summable, summed-result}
+use Rattle.result.proofs.inner.with_taps.Statement.{statement}
+use Rattle.result.proofs.inner.with_taps.Tie as tie
 
 taps-into-requires : tie.Need-taps-into-requires
 taps-into-requires c κs =

@@ -12,9 +12,9 @@ use borrow.Author.Needs.{sfits-of}
 use Rattle.algebra.specs.Sum.{sum}
 use Rattle.meaning.specs.Extension.{at}
 use Rattle.taps.specs.Weigh.{weightIn}
-use Rattle.point.specs.Shares.{shareIn, share-next, shares-fit}
-use Rattle.point.proofs.summing.summed.Statement.{statement}
-use Rattle.point.proofs.summing.summed.Tie as tie
+use Rattle.result.specs.Shares.{shareIn, share-next, shares-fit}
+use Rattle.result.proofs.inner.summed.Statement.{statement}
+use Rattle.result.proofs.inner.summed.Tie as tie
 
 abbrev Inv-loop : tie.InvT-loop
 Inv-loop taps samples n start end s₀ p₀ s p = (p ≤ end) × (toZ w64 s ≡ sum p (shareIn taps samples n))

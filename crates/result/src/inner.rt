@@ -11,12 +11,12 @@ ghost use Rattle.meaning.specs.Extension.{fold};
 ghost use Rattle.meaning.specs.Kernel.{reach};
 ghost use Rattle.meaning.specs.Smoothing as S;
 ghost use Rattle.plan.specs.Structs.{stagesOf};
-ghost use Rattle.point.specs.Shares.{shareIn, Summable, Pointable};
+ghost use Rattle.result.specs.Shares.{shareIn, Summable, Pointable};
 use plan::Plan;
 use taps::inner::MOST_TAPS;
 
 // The result at n of samples that are not refused.
-pub(crate) fn result(plan: Plan, samples: &[i32], n: usize) -> i64
+pub fn result(plan: Plan, samples: &[i32], n: usize) -> i64
     requires { ⌜ Pointable (stagesOf plan) n (now samples) ⌝ }
     ensures { λ r. ⌜ r ≡ S.result fold (stagesOf plan) (now (samples .entry)) (pos n) ⌝ }
 {

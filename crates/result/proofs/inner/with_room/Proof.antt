@@ -1,8 +1,8 @@
 -- An accepted plan has no more taps than there is room for.
 use borrow.Author.Needs.{needs}
 use Rattle.theory.specs.Accepted.{length-accepted}
-use Rattle.point.proofs.summing.with_room.Statement.{statement}
-use Rattle.point.proofs.summing.with_room.Tie as tie
+use Rattle.result.proofs.inner.with_room.Statement.{statement}
+use Rattle.result.proofs.inner.with_room.Tie as tie
 
 tap-count-requires : tie.Need-tap-count-requires
 tap-count-requires c κs = length-accepted (c .pre .0 .common)

@@ -1,0 +1,2 @@
+// The result at one place.
+pub mod inner;
