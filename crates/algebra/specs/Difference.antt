@@ -7,7 +7,7 @@
 --   linear       rules for omega: what `diff` leaves, an equation of two differences
 -- An identity without cases: rw (rep a, rep b) (simp diff (omega linear)). Where constructors have met and computed, as in
 -- negsuc a -ℤ negsuc b, `diff` sees nothing: state the identity over variables, or use Order's of- and zarith.
--- Laws: ⊖-is, ⊖-neg, ⊖-pos, ⊖-negsuc, ⊖-eq, ⊖-halves, ⊖-+, ⊖-*; rep, rep-pos, rep-negsuc, rep-neg; sub-pos, sub-neg.
+-- Laws: ⊖-is, ⊖-neg, ⊖-pos, ⊖-negsuc, ⊖-eq, ⊖-halves, ⊖-+, ⊖-*; rep, rep-pos, rep-negsuc, rep-neg; sub-pos.
 use mathlib.Core.Path.{_≡_, refl, sym, _∙_, ap}
 use Prim.Native.Nat.{ℕ, zero, suc, _+_, _*_, _-_, _≤_}
 use native.Mathlib.Nat.{add-comm}
@@ -113,6 +113,3 @@ pub ruleset diff = (⊖-+, ⊖-*, ⊖-neg, rep-pos, rep-negsuc, rep-neg)
 -- ---- the difference of two naturals
 pub sub-pos : (a b : ℕ) → b ≤ a → pos a -ℤ pos b ≡ pos (a - b)
 sub-pos a b h = ⊖-is a b ∙ ⊖-pos a b (a - b) (omega arith)
-
-pub sub-neg : (a b : ℕ) → a ≤ b → pos a -ℤ pos b ≡ negℤ (pos (b - a))
-sub-neg a b h = ⊖-is a b ∙ ⊖-negpos a b (b - a) (omega arith)

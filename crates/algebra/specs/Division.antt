@@ -2,17 +2,16 @@
 --   Divided z m q r   z is m q + r, and r is below m; so 0 < m, and r is never negative
 -- A remainder defined elsewhere is tied by divided-pos and divided-negsuc, and then known by divided-unique.
 -- Laws: divided-pos, divided-negsuc, divided-shift, divided-unique;
--- floor-divided, floor-unique, floor-lower, floor-upper, floor-mono, floor-abs.
+-- floor-divided, floor-unique, floor-lower, floor-upper, floor-mono.
 use mathlib.Core.Path.{_≡_, refl, ap}
 use Prim.Native.Nat.{ℕ, suc, _+_, _*_, _-_, _/_, _%_, _<_}
-use native.Mathlib.Nat.{div-add-mod', mod-lt, lt-of-mul-lt-mul-left, div-lt-iff-lt-mul, div-le-of-le-mul}
+use native.Mathlib.Nat.{div-add-mod', mod-lt, lt-of-mul-lt-mul-left}
 use native.Mathlib.Omega.{arith}
 use lib.IntN.{ℤ, pos, negsuc, _+ℤ_, _*ℤ_}
 use lib.Signed.{_≤ℤ_, _<ℤ_, shrZ, ≤ℤ-refl}
 use Rattle.algebra.specs.Difference.{plus, minus, diff, linear}
 use Rattle.algebra.specs.Ring.{*ℤ-+ℤ}
 use Rattle.algebra.specs.Order.{zarith, le-in, of+, of*, ≤ℤ-antisym}
-use Rattle.algebra.specs.Size.{Abs}
 use Rattle.algebra.specs.Solver.{ring, _≗_}
 use Rattle.algebra.specs.Expression.{_⊕_, _⊗_}
 
@@ -63,7 +62,3 @@ module _ (m : ℕ) (h : 0 < m) where
 
   pub floor-mono : {a b : ℤ} → a ≤ℤ b → shrZ a m ≤ℤ shrZ b m
   floor-mono {a} {b} k = quotient-mono (floor-divided a m h .1) (floor-divided b m h .1) k
-
-  pub floor-abs : {z : ℤ} {M : ℕ} → Abs z (M * m) → Abs (shrZ z m) M
-  floor-abs {z = pos a} {M} k = record { bound = div-le-of-le-mul m (omega arith) }
-  floor-abs {z = negsuc a} {M} k = record { bound = div-lt-iff-lt-mul h .1 (k .bound) }

@@ -2,11 +2,10 @@
 --   zarith              rules by which `omega` reads and proves ≤ℤ, <ℤ and ≡ of whole numbers
 --   of+ a b, of- a b    what a sum or a difference is, for omega's list: omega (zarith, of+ a b)
 --   of-neg a, of* a b   the same of a negation and of a product, whose parts' products are unknowns
---   le-of h e           the certificate: a ≤ b, from h : 0 ≤ z and e : a + z ≡ b
 --   nonneg-…            0 ≤ a number of that shape; nonneg-pos: of pos n
 --   positive-…          0 < a number of that shape; -l, -r: the summand that is above 0
--- Laws: le-in, le-out, lt-in, lt-out, eq-in, eq-out; ≤ℤ-trans, ≤ℤ-<ℤ-trans, <ℤ-weaken, ≤ℤ-antisym;
--- +ℤ-mono, negℤ-anti, *ℤ-mono, *ℤ-cancel-r; nonneg-pos, nonneg-+, nonneg-*, nonneg-square, nonneg-sub;
+-- Laws: le-in, le-out, lt-in, lt-out, eq-in, eq-out; ≤ℤ-<ℤ-trans, <ℤ-weaken, ≤ℤ-antisym;
+-- +ℤ-mono, *ℤ-mono, *ℤ-cancel-r; nonneg-pos, nonneg-+, nonneg-*;
 -- positive-pos, positive-*, positive-+-l, positive-+-r.
 use mathlib.Core.Path.{_≡_, refl, sym, _∙_, ap₂}
 use Prim.Native.Nat.{ℕ, zero, suc, _+_, _*_, _≤_, _<_}
@@ -65,9 +64,6 @@ pub of* : (a b : ℤ) → plus (a *ℤ b) + (plus a * minus b + minus a * plus b
 of* a b = rw (ap₂ _*ℤ_ (rep a) (rep b) ∙ ⊖-* _ _ _ _) (⊖-halves _ _)
 
 -- ---- the order
-pub ≤ℤ-trans : {a b c : ℤ} → a ≤ℤ b → b ≤ℤ c → a ≤ℤ c
-≤ℤ-trans h k = omega zarith
-
 pub ≤ℤ-<ℤ-trans : {a b c : ℤ} → a ≤ℤ b → b <ℤ c → a <ℤ c
 ≤ℤ-<ℤ-trans h k = omega zarith
 
@@ -80,9 +76,6 @@ pub ≤ℤ-antisym : {a b : ℤ} → a ≤ℤ b → b ≤ℤ a → a ≡ b
 -- ---- monotone
 pub +ℤ-mono : {a b c d : ℤ} → a ≤ℤ b → c ≤ℤ d → (a +ℤ c) ≤ℤ (b +ℤ d)
 +ℤ-mono {a} {b} {c} {d} h k = omega (zarith, of+ a c, of+ b d)
-
-pub negℤ-anti : {a b : ℤ} → a ≤ℤ b → negℤ b ≤ℤ negℤ a
-negℤ-anti {a} {b} h = omega (zarith, of-neg a, of-neg b)
 
 pub *ℤ-mono : {a b c : ℤ} → pos 0 ≤ℤ c → a ≤ℤ b → (c *ℤ a) ≤ℤ (c *ℤ b)
 *ℤ-mono {a} {b} {c = pos n} h k = omega (zarith, of* (pos n) a, of* (pos n) b, mul-le-mul-left n (le-out k))
@@ -103,16 +96,6 @@ pub nonneg-* : {a b : ℤ} → pos 0 ≤ℤ a → pos 0 ≤ℤ b → pos 0 ≤�
 nonneg-* {a = pos a} {b = pos b} h k = nonneg-pos
 nonneg-* {a = pos a} {b = negsuc b} h k = absurd (k .le)
 nonneg-* {a = negsuc a} {b} h k = absurd (h .le)
-
-pub nonneg-square : (a : ℤ) → pos 0 ≤ℤ (a *ℤ a)
-nonneg-square (pos a) = nonneg-pos
-nonneg-square (negsuc a) = nonneg-pos
-
-pub nonneg-sub : {a b : ℤ} → a ≤ℤ b → pos 0 ≤ℤ (b -ℤ a)
-nonneg-sub {a} {b} h = omega (zarith, of- b a)
-
-pub le-of : {a b z : ℤ} → pos 0 ≤ℤ z → a +ℤ z ≡ b → a ≤ℤ b
-le-of {a} {b} {z} h e = omega (zarith, of+ a z)
 
 -- ---- positive
 pub positive-pos : {n : ℕ} → 0 < n → pos 0 <ℤ pos n

@@ -2,13 +2,13 @@
 --   Abs z n     |z| ≤ n; a record, so that z and n are read from a hypothesis
 --   of-abs z    what natAbs z is, for omega's list beside of+ and the like
 -- Laws: natAbs-+, natAbs-back, natAbs-neg, natAbs-*, natAbs-sub, natAbs-nonneg;
--- abs-self, abs-weaken, abs-+, abs-neg, abs--, abs-*, abs-part, abs-rest; mag-abs, abs-mag, fits-abs, fits-wider (what fits 32 bits fits 64).
+-- abs-self, abs-weaken, abs-+, abs-neg, abs--, abs-*, abs-part, abs-rest; mag-abs, fits-abs, fits-wider (what fits 32 bits fits 64).
 use mathlib.Core.Path.{_≡_, refl}
 use Prim.Native.Nat.{ℕ, suc, _+_, _*_, _-_, _^_, _≤_, _<_, min}
 use native.Mathlib.Nat.{mul-le-mul, le-refl, le-trans, lt-of-le-of-lt}
 use native.Mathlib.Omega.{arith}
 use lib.IntN.{ℤ, pos, negsuc, negℤ, natAbs, _+ℤ_, _-ℤ_, _*ℤ_}
-use lib.Signed.{_≤ℤ_, mag, natAbs-le}
+use lib.Signed.{_≤ℤ_, mag}
 use mir.Syntax.{Width, w32, w64}
 use mir.Val.{SFits, hbits}
 use Rattle.algebra.specs.Difference.{plus, minus}
@@ -78,9 +78,6 @@ mag-abs {z} h k = lt-of-le-of-lt (le-trans (mag-le z) (h .bound)) k
     mag-le : (z : ℤ) → mag z ≤ natAbs z
     mag-le (pos n) = omega arith
     mag-le (negsuc n) = omega arith
-
-pub abs-mag : (z : ℤ) {H : ℕ} → mag z < H → Abs z H
-abs-mag z h = record { bound = natAbs-le z h }
 
 pub fits-abs : {w : Width} {z : ℤ} {n : ℕ} → Abs z n → n < 2 ^ hbits w → SFits w z
 fits-abs h k = record { sfits = mag-abs h k }

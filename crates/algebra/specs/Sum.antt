@@ -1,9 +1,9 @@
 -- Finite sums.
 --   sum n f      f 0 + .. + f (n − 1); 0 where n is 0
 --   sumZ s n f   f s + f (s + 1) + .. + f (s + n − 1), from a whole number s on; 0 where n is 0
--- Laws: sum-ext, sum-none, sum-const, sum-+, sum-*, sum-neg, sum-swap;
--- sum-first, sum-split, sum-blocks, sum-shift, sum-next, sum-rev, sum-telescope; sum-wide, sum-same, sum-only, sum-where;
--- sum-abs, sum-nonneg, sum-positive, sum-part, sum-weighted; sumZ-shift, sumZ-split, sumZ-rev.
+-- Laws: sum-ext, sum-none, sum-+, sum-*;
+-- sum-first, sum-split, sum-blocks, sum-next; sum-wide, sum-same, sum-only, sum-where;
+-- sum-abs, sum-nonneg, sum-positive, sum-part, sum-weighted.
 use mathlib.Core.Path.{_≡_, refl, sym, _∙_, ap, ap₂}
 use mathlib.Core.Logic.{_≢_}
 use mathlib.Core.Bool.{Bool, true, false, cond}
@@ -11,14 +11,11 @@ use Prim.Native.Nat.{ℕ, zero, suc, _+_, _*_, _-_, _≤_, _<_}
 use native.Mathlib.Nat.{add-zero, add-suc, zero-mul, suc-mul}
 use native.Mathlib.Decide.{ℕ-discrete, decLe}
 use native.Mathlib.Omega.{arith}
-use lib.IntN.{ℤ, pos, negℤ, natAbs, _+ℤ_, _-ℤ_, _*ℤ_, +ℤ-idr, +ℤ-idl, +ℤ-assoc, +ℤ-comm, +ℤ-invr, *ℤ-zero, zero-*ℤ, sucℤ-*ℤ, negℤ-+ℤ}
+use lib.IntN.{ℤ, pos, natAbs, _+ℤ_, _*ℤ_, +ℤ-idr, +ℤ-idl, +ℤ-assoc, +ℤ-comm, *ℤ-zero}
 use lib.Signed.{_≤ℤ_, _<ℤ_}
-use Rattle.algebra.specs.Difference.{rep, diff, linear}
 use Rattle.algebra.specs.Ring.{ac, *ℤ-idr, *ℤ-+ℤ}
 use Rattle.algebra.specs.Order.{nonneg-pos, nonneg-+, positive-+-l, positive-+-r}
 use Rattle.algebra.specs.Size.{Abs, abs-+, abs-part, natAbs-nonneg}
-use Rattle.algebra.specs.Expression.{_⊕_, _⊝_}
-use Rattle.algebra.specs.Solver.{ring, _≗_}
 
 unfoldable pub sum : ℕ → (ℕ → ℤ) → ℤ
 sum zero f = pos 0
@@ -35,11 +32,6 @@ unfolding sum
 sum-none zero h = refl
 sum-none (suc n) h = ap₂ _+ℤ_ (sum-none n (λ i l. h i (omega arith))) (h n (omega arith))
 
-pub sum-const : (n : ℕ) (c : ℤ) → sum n (λ i. c) ≡ pos n *ℤ c
-unfolding sum
-sum-const zero c = sym (zero-*ℤ c)
-sum-const (suc n) c = rw (sum-const n c) (sym (sucℤ-*ℤ (pos n) c))
-
 pub sum-+ : (n : ℕ) (f g : ℕ → ℤ) → sum n (λ i. f i +ℤ g i) ≡ sum n f +ℤ sum n g
 unfolding sum
 sum-+ zero f g = refl
@@ -49,16 +41,6 @@ pub sum-* : (n : ℕ) (c : ℤ) (f : ℕ → ℤ) → sum n (λ i. c *ℤ f i) �
 unfolding sum
 sum-* zero c f = sym (*ℤ-zero c)
 sum-* (suc n) c f = rw (sum-* n c f) (sym (*ℤ-+ℤ c (sum n f) (f n)))
-
-pub sum-neg : (n : ℕ) (f : ℕ → ℤ) → sum n (λ i. negℤ (f i)) ≡ negℤ (sum n f)
-unfolding sum
-sum-neg zero f = refl
-sum-neg (suc n) f = rw (sum-neg n f) (sym (negℤ-+ℤ (sum n f) (f n)))
-
-pub sum-swap : (m n : ℕ) (f : ℕ → ℕ → ℤ) → sum m (λ i. sum n (λ j. f i j)) ≡ sum n (λ j. sum m (λ i. f i j))
-unfolding sum
-sum-swap zero n f = sym (sum-none n (λ j l. refl))
-sum-swap (suc m) n f = rw (sum-swap m n f) (sym (sum-+ n (λ j. sum m (λ i. f i j)) (λ j. f m j)))
 
 -- ---- the range taken apart
 pub sum-first : (n : ℕ) (f : ℕ → ℤ) → sum (suc n) f ≡ f 0 +ℤ sum n (λ i. f (suc i))
@@ -77,34 +59,10 @@ unfolding sum
 sum-blocks zero p f = rw (zero-mul p)
 sum-blocks (suc k) p f = rw (suc-mul k p, sum-split (k * p) p f, sum-blocks k p f)
 
--- one step on: what leaves and what enters
-pub sum-shift : (n : ℕ) (f : ℕ → ℤ) → sum n (λ i. f (suc i)) +ℤ f 0 ≡ sum n f +ℤ f n
-unfolding sum
-sum-shift n f = +ℤ-comm (sum n (λ i. f (suc i))) (f 0) ∙ sym (sum-first n f)
-
 -- where the last term is 0, all may move on by one
 pub sum-next : (n : ℕ) (f : ℕ → ℤ) → f n ≡ pos 0 → sum n f ≡ f 0 +ℤ sum n (λ i. f (suc i))
 unfolding sum
 sum-next n f e = sym (ap (λ z. sum n f +ℤ z) e ∙ +ℤ-idr (sum n f)) ∙ sum-first n f
-
-pub sum-rev : (n : ℕ) (f : ℕ → ℤ) → sum n (λ i. f (n - suc i)) ≡ sum n f
-unfolding sum
-sum-rev zero f = refl
-sum-rev (suc n) f =
-    sum-first n (λ i. f (suc n - suc i))
-    ∙ ap₂ _+ℤ_ (ap f last) (sum-ext n (λ i l. ap f (next i)) ∙ sum-rev n f)
-    ∙ +ℤ-comm (f n) (sum n f)
-  where
-    last : suc n - 1 ≡ n
-    last = omega arith
-
-    next : (i : ℕ) → suc n - suc (suc i) ≡ n - suc i
-    next i = omega arith
-
-pub sum-telescope : (n : ℕ) (f : ℕ → ℤ) → sum n (λ i. f (suc i) -ℤ f i) ≡ f n -ℤ f 0
-unfolding sum
-sum-telescope zero f = sym (+ℤ-invr (f 0))
-sum-telescope (suc n) f = rw (sum-telescope n f) (ring 3 (λ a b c. a ⊝ c ⊕ (b ⊝ a) ≗ b ⊝ c) refl (f n) (f (suc n)) (f 0))
 
 -- ---- where most terms are 0
 pub sum-wide : (m n : ℕ) (f : ℕ → ℤ) → m ≤ n → ((i : ℕ) → m ≤ i → f i ≡ pos 0) → sum n f ≡ sum m f
@@ -169,15 +127,3 @@ sum-weighted (suc n) b h k = record { bound = rw (natAbs-nonneg (sum-nonneg n (�
 -- ---- over whole numbers
 abbrev pub sumZ : ℤ → ℕ → (ℤ → ℤ) → ℤ
 sumZ s n f = sum n (λ i. f (s +ℤ pos i))
-
-pub sumZ-shift : (s t : ℤ) (n : ℕ) (f : ℤ → ℤ) → sumZ (s +ℤ t) n f ≡ sumZ s n (λ x. f (x +ℤ t))
-sumZ-shift s t n f = simp ac
-
-pub sumZ-split : (s : ℤ) (m n : ℕ) (f : ℤ → ℤ) → sumZ s (m + n) f ≡ sumZ s m f +ℤ sumZ (s +ℤ pos m) n f
-sumZ-split s m n f = sum-split m n (λ i. f (s +ℤ pos i)) ∙ ap (λ z. sumZ s m f +ℤ z) (sum-ext n (λ i l. ap f (sym (+ℤ-assoc s (pos m) (pos i)))))
-
-pub sumZ-rev : (s : ℤ) (n : ℕ) (f : ℤ → ℤ) → sumZ s n (λ x. f (s +ℤ s +ℤ pos n -ℤ pos 1 -ℤ x)) ≡ sumZ s n f
-sumZ-rev s n f = sum-ext n (λ i l. ap f (mirrored i l)) ∙ sum-rev n (λ i. f (s +ℤ pos i))
-  where
-    mirrored : (i : ℕ) → i < n → s +ℤ s +ℤ pos n -ℤ pos 1 -ℤ (s +ℤ pos i) ≡ s +ℤ pos (n - suc i)
-    mirrored i l = rw (rep s) (simp diff (omega linear))

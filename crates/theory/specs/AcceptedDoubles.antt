@@ -3,7 +3,7 @@
 -- Laws: size-lent (rows 5 to 8 of a product of 0 are these), lent-numbered, lent-bound (where none of them applies, the bound is allowed);
 -- double-rising, double-numbered; doubles-allowed, allowed-doubles; double-position (at 11), double-no-position (else).
 use mathlib.Core.Path.{_≡_, refl, sym, ap, _∙_}
-use mathlib.Core.Bool.{Bool, true, false, not, true≢false}
+use mathlib.Core.Bool.{Bool, not, true≢false}
 use mathlib.Core.List.{List, [], _∷_}
 use Prim.Native.Nat.{ℕ, _≤_}
 use native.Mathlib.Omega.{arith}

@@ -2,7 +2,7 @@
 --   moment-append      variances add: of stages one after the other, each one's moment times the other's divisor
 --   moment-replicate   the variance of K equal stages is K times that of one
 --   moment-stage       that of one stage, in its radius and weights: (r(r+1)(2r+1)b + 6(r+1)²a) / 3 over the sum of its taps
--- Laws: kernel-centred, convolved-square; moment-append, moment-order, moment-cons, moment-replicate, moment-stage, moment-nonneg.
+-- Laws: kernel-centred, convolved-square; moment-append, moment-cons, moment-replicate, moment-stage.
 use mathlib.Core.Path.{_≡_, refl, sym, _∙_, ap, ap₂}
 use mathlib.Core.List.{List, [], _∷_, _++_}
 use Prim.Native.Nat.{ℕ, zero, suc, _+_, _*_}
@@ -11,17 +11,15 @@ use native.Mathlib.Numerals.{add-one}
 use native.Mathlib.Omega.{arith}
 use lib.ListN.{replicate}
 use lib.IntN.{ℤ, pos, negℤ, _+ℤ_, _-ℤ_, _*ℤ_, *ℤ-comm, *ℤ-zero, zero-*ℤ, +ℤ-idl, +ℤ-idr, +ℤ-invr}
-use lib.Signed.{_≤ℤ_}
 use Rattle.algebra.specs.Ring.{ac, *ℤ-zero-r, *ℤ-+ℤ, *ℤ-negℤ}
-use Rattle.algebra.specs.Order.{zarith, of+, nonneg-*, nonneg-square}
+use Rattle.algebra.specs.Order.{zarith, of+}
 use Rattle.algebra.specs.Expression.{_⊕_, _⊝_, _⊗_, con}
 use Rattle.algebra.specs.Solver.{ring, _≗_}
-use Rattle.algebra.specs.Within.{sumWithin, within-ext, within-none, within-+, within-*, within-neg, within-nonneg}
+use Rattle.algebra.specs.Within.{sumWithin, within-ext, within-none, within-+, within-*, within-neg}
 use Rattle.meaning.specs.Kernel.{Stage, tap, kernel, width, tapSum, divisor, moment, passAt}
 use Rattle.meaning.specs.Smoothing.{convolved}
-use Rattle.theory.specs.Kernel.{tap-split, kernel-symmetric, kernel-nonneg}
+use Rattle.theory.specs.Kernel.{tap-split, kernel-symmetric}
 use Rattle.theory.specs.Convolution.{passAt-ext, convolved-ext, convolved-none, convolved-cons, convolved-append, convolved-const, convolved-+, convolved-*, kernel-sum}
-use Rattle.theory.specs.Order.{Reordered, convolved-order}
 
 -- ---- its first moment is 0
 pub kernel-centred : (ss : List Stage) → sumWithin (width ss) (λ m. kernel ss m *ℤ m) ≡ pos 0
@@ -63,9 +61,6 @@ moment-append ss ts =
     regroup : (d v e u : ℤ) → d *ℤ v +ℤ e *ℤ u ≡ u *ℤ e +ℤ d *ℤ v
     regroup d v e u = simp ac
 
-pub moment-order : {ss ts : List Stage} → Reordered ss ts → moment ss ≡ moment ts
-moment-order {ss} {ts} o = sym (centre ss) ∙ convolved-order o (λ x. x *ℤ x) (pos 0) ∙ centre ts
-
 pub moment-cons : (s : Stage) (ss : List Stage) → moment (s ∷ ss) ≡ moment (s ∷ []) *ℤ pos (divisor ss) +ℤ pos (tapSum s) *ℤ moment ss
 moment-cons s ss = moment-append (s ∷ []) ss ∙ ap (λ d. moment (s ∷ []) *ℤ pos (divisor ss) +ℤ pos d *ℤ moment ss) (unfold divisor in mul-one (tapSum s))
 
@@ -104,8 +99,3 @@ moment-stage s =
 
     regroup : (b q a e : ℤ) → pos 3 *ℤ (b *ℤ q +ℤ a *ℤ (e +ℤ e)) ≡ b *ℤ (pos 3 *ℤ q) +ℤ pos 6 *ℤ e *ℤ a
     regroup = ring 4 (λ b q a e. con (pos 3) ⊗ (b ⊗ q ⊕ a ⊗ (e ⊕ e)) ≗ b ⊗ (con (pos 3) ⊗ q) ⊕ con (pos 6) ⊗ e ⊗ a) refl
-
--- ---- its sign
-pub moment-nonneg : (ss : List Stage) → pos 0 ≤ℤ moment ss
-unfolding moment
-moment-nonneg ss = within-nonneg _ (λ m l. nonneg-* (kernel-nonneg ss m) (nonneg-square m))

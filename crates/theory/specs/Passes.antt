@@ -2,18 +2,18 @@
 --   repeated K g f   g (g (.. f)), K times
 -- A symmetric kernel commutes with a folding, so the extension of the results is the result at every whole n (ext-results).
 -- Then a stage in front is one pass more (results-cons), and K equal stages are K passes (results-replicate).
--- Laws: length-results, at-results, length-pass, at-pass; result-none, result-cons, result-append, result-empty (of no samples);
+-- Laws: length-results, at-results, length-pass, at-pass; result-none, result-cons, result-empty (of no samples);
 -- result-fold, ext-results; results-none, results-cons, results-append, results-replicate.
 use mathlib.Core.Path.{_≡_, refl, sym, _∙_, ap}
 use mathlib.Core.List.{List, [], _∷_, _++_}
 use Prim.Native.Nat.{ℕ, zero, suc, _<_}
 use native.Mathlib.Omega.{arith}
 use lib.ListN.{length, replicate}
-use lib.IntN.{ℤ, pos, _*ℤ_, *ℤ-zero}
+use lib.IntN.{ℤ, pos, *ℤ-zero}
 use Rattle.meaning.specs.Extension.{at, IndexMap, ext}
 use Rattle.meaning.specs.Kernel.{Stage, divisor, passAt}
-use Rattle.meaning.specs.Smoothing.{convolved, result, results, pass}
-use Rattle.theory.specs.Convolution.{passAt-ext, convolved-none, convolved-forward, convolved-backward, convolved-const, convolved-cons, convolved-append}
+use Rattle.meaning.specs.Smoothing.{result, results, pass}
+use Rattle.theory.specs.Convolution.{passAt-ext, convolved-none, convolved-forward, convolved-backward, convolved-const, convolved-cons}
 use Rattle.theory.specs.Lists.{length-listOf, at-listOf, listOf-ext, listOf-at, at-past}
 use Rattle.theory.specs.Folding.{Folding, Follows, forward, backward}
 
@@ -47,10 +47,6 @@ module _ (φ : IndexMap) where
   pub result-cons : (s : Stage) (ss : List Stage) (f : List ℤ) (n : ℤ) → result φ (s ∷ ss) f n ≡ passAt s (result φ ss f) n
   unfolding result
   result-cons s ss f n = convolved-cons s ss (ext φ f) n
-
-  pub result-append : (ss ts : List Stage) (f : List ℤ) (n : ℤ) → result φ (ss ++ ts) f n ≡ convolved ss (result φ ts f) n
-  unfolding result
-  result-append ss ts f n = convolved-append ss ts (ext φ f) n
 
   follows : (ss : List Stage) (f : List ℤ) (n : ℤ) (p : ℕ) → Follows (φ (length f)) n p → result φ ss f n ≡ result φ ss f (pos p)
   unfolding result ext

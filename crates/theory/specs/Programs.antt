@@ -18,7 +18,7 @@ use borrow.Author.Tests.{lt-ltb, le-ltb}
 use Rattle.meaning.specs.Limits.{maxJob}
 use Rattle.meaning.specs.Encoding.{text, decimal}
 use Rattle.meaning.specs.Extension.{at, IndexMap}
-use Rattle.meaning.specs.Kernel.{Stage, plan, divisor}
+use Rattle.meaning.specs.Kernel.{Stage, divisor}
 use Rattle.meaning.specs.Refusals.{Answer, ifDone, planDivisor}
 use Rattle.meaning.specs.Calls.{Smoothed, smoothed, smoothSeries}
 use Rattle.meaning.specs.Record.{readRecord}

@@ -1,5 +1,5 @@
 -- How large results grow: samples of size up to M give results of size up to M times the divisor, and so after every pass.
--- Laws: passAt-size, convolved-size; kernel-size, weight-size (no tap and no weight is larger than the divisor); ext-size, pass-size; result-size, results-size.
+-- Laws: passAt-size, convolved-size; kernel-size, weight-size (no tap and no weight is larger than the divisor); ext-size; result-size, results-size.
 use mathlib.Core.Bool.{Bool, true, false, cond}
 use mathlib.Core.List.{List, [], _∷_}
 use Prim.Native.Nat.{ℕ, _*_}
@@ -12,7 +12,7 @@ use Rattle.algebra.specs.Size.{Abs}
 use Rattle.algebra.specs.Within.{within-weighted}
 use Rattle.meaning.specs.Extension.{at, IndexMap, ext}
 use Rattle.meaning.specs.Kernel.{Stage, kernel, width, tapSum, divisor, passAt}
-use Rattle.meaning.specs.Smoothing.{convolved, result, results, pass, weight}
+use Rattle.meaning.specs.Smoothing.{convolved, result, results, weight}
 use Rattle.theory.specs.Kernel.{kernel-none, kernel-cons, kernel-nonneg}
 use Rattle.theory.specs.Convolution.{kernel-sum, passAt-one}
 use Rattle.theory.specs.Lists.{Sized, sized-listOf}
@@ -45,10 +45,6 @@ module _ (φ : IndexMap) {M : ℕ} {f : List ℤ} (h : Sized M f) where
   pub ext-size : (n : ℤ) → Abs (ext φ f n) M
   unfolding ext
   ext-size n = h .size (φ (length f) n)
-
-  pub pass-size : (s : Stage) → Sized (M * tapSum s) (pass φ s f)
-  unfolding pass
-  pass-size s = sized-listOf (length f) _ (λ n l. passAt-size s ext-size (pos n))
 
   pub result-size : (ss : List Stage) (n : ℤ) → Abs (result φ ss f n) (M * divisor ss)
   unfolding result

@@ -1,8 +1,8 @@
 -- The numbers of stages one after the other, and of K equal ones.
 --   PositiveInner ss   every inner weight of ss is above 0
--- Laws: tapSum-is, divisor-cons; width-append, reach-append, divisor-append; width-replicate, reach-replicate, divisor-replicate (of K equal stages);
+-- Laws: tapSum-is, divisor-cons; divisor-append; width-replicate, reach-replicate, divisor-replicate (of K equal stages);
 -- divisor-plan, reach-edged, reach-plain (document 01's numbers of a plan);
--- inner-replicate, inner-append, tapSum-positive, divisor-positive, divisor-part; replicate-part, reach-part; room-part, room-replicate.
+-- inner-replicate, tapSum-positive, divisor-positive, divisor-part; replicate-part, reach-part; room-part, room-replicate.
 use mathlib.Core.Path.{_≡_, refl, sym, _∙_, ap}
 use mathlib.Core.List.{List, [], _∷_, _++_}
 use Prim.Native.Nat.{ℕ, zero, suc, _+_, _*_, _-_, _^_, _≤_, _<_}
@@ -20,16 +20,6 @@ tapSum-is s = refl
 pub divisor-cons : (s : Stage) (ss : List Stage) → divisor (s ∷ ss) ≡ tapSum s * divisor ss
 unfolding divisor
 divisor-cons s ss = refl
-
-pub width-append : (ss ts : List Stage) → width (ss ++ ts) ≡ width ss + width ts
-unfolding width
-width-append [] ts = omega arith
-width-append (s ∷ ss) ts = omega (arith, width-append ss ts)
-
-pub reach-append : (ss ts : List Stage) → reach (ss ++ ts) ≡ reach ss + reach ts
-unfolding reach
-reach-append [] ts = omega arith
-reach-append (s ∷ ss) ts = omega (arith, reach-append ss ts)
 
 pub divisor-append : (ss ts : List Stage) → divisor (ss ++ ts) ≡ divisor ss * divisor ts
 unfolding divisor
@@ -71,10 +61,6 @@ pub data PositiveInner : List Stage → Type 0 where
 pub inner-replicate : (K : ℕ) (s : Stage) → 0 < s .inner → PositiveInner (replicate K s)
 inner-replicate zero s h = none
 inner-replicate (suc K) s h = h and inner-replicate K s h
-
-pub inner-append : {ss ts : List Stage} → PositiveInner ss → PositiveInner ts → PositiveInner (ss ++ ts)
-inner-append none q = q
-inner-append (h and p) q = h and inner-append p q
 
 pub tapSum-positive : (s : Stage) → 0 < s .inner → 0 < tapSum s
 unfolding tapSum
