@@ -2,12 +2,11 @@
 --   a ⊖ b        a − b, shut: only the laws below see through it
 --   plus z       z where it is above 0, else 0
 --   minus z      −z where it is below 0, else 0
---   compare a b  `ge k e` with e : a ≡ b + k, or `lt k e` with e : b ≡ a + suc k; its type is Compared a b
 --   diff         rules for simp: sums, products and negations of differences become one difference
 --   linear       rules for omega: what `diff` leaves, an equation of two differences
 -- An identity without cases: rw (rep a, rep b) (simp diff (omega linear)). Where constructors have met and computed, as in
 -- negsuc a -ℤ negsuc b, `diff` sees nothing: state the identity over variables, or use Order's of- and zarith.
--- Laws: ⊖-is, ⊖-neg, ⊖-pos, ⊖-negsuc, ⊖-eq, ⊖-halves, ⊖-+, ⊖-*; rep, rep-pos, rep-negsuc, rep-neg; sub-pos.
+-- Laws: ⊖-is, ⊖-neg, ⊖-negsuc, ⊖-eq, ⊖-halves, ⊖-+, ⊖-*; rep, rep-pos, rep-negsuc, rep-neg; sub-pos.
 use mathlib.Core.Path.{_≡_, refl, sym, _∙_, ap}
 use Prim.Native.Nat.{ℕ, zero, suc, _+_, _*_, _-_, _≤_}
 use native.Mathlib.Nat.{add-comm}
@@ -26,11 +25,11 @@ abbrev pub minus : ℤ → ℕ
 minus (pos n) = 0
 minus (negsuc n) = suc n
 
-pub data Compared (a b : ℕ) : Type 0 where
+data Compared (a b : ℕ) : Type 0 where
   ge : (k : ℕ) → a ≡ b + k → Compared a b
   lt : (k : ℕ) → b ≡ a + suc k → Compared a b
 
-pub compare : (a b : ℕ) → Compared a b
+compare : (a b : ℕ) → Compared a b
 compare a zero = ge a (omega arith)
 compare zero (suc b) = lt b (omega arith)
 compare (suc a) (suc b) = step (compare a b)
@@ -48,7 +47,7 @@ pub ⊖-neg : (a b : ℕ) → negℤ (a ⊖ b) ≡ b ⊖ a
 unfolding _⊖_
 ⊖-neg a b = negℤ-+ℤ (pos a) (negℤ (pos b)) ∙ ap (λ z. negℤ (pos a) +ℤ z) (negℤ-negℤ (pos b)) ∙ +ℤ-comm (negℤ (pos a)) (pos b)
 
-pub ⊖-pos : (a b k : ℕ) → a ≡ b + k → a ⊖ b ≡ pos k
+⊖-pos : (a b k : ℕ) → a ≡ b + k → a ⊖ b ≡ pos k
 unfolding _⊖_
 ⊖-pos a b k e = ap (λ (n : ℕ). pos n -ℤ pos b) (e ∙ add-comm b k) ∙ +ℤ-negℤ-cancel (pos k) (pos b)
 

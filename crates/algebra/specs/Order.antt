@@ -4,9 +4,8 @@
 --   of-neg a, of* a b   the same of a negation and of a product, whose parts' products are unknowns
 --   nonneg-…            0 ≤ a number of that shape; nonneg-pos: of pos n
 --   positive-…          0 < a number of that shape; -l, -r: the summand that is above 0
--- Laws: le-in, le-out, lt-in, lt-out, eq-in, eq-out; ≤ℤ-<ℤ-trans, <ℤ-weaken, ≤ℤ-antisym;
--- +ℤ-mono, *ℤ-mono, *ℤ-cancel-r; nonneg-pos, nonneg-+, nonneg-*;
--- positive-pos, positive-*, positive-+-l, positive-+-r.
+-- Laws: le-in, le-out, lt-in, lt-out, eq-in, eq-out; ≤ℤ-<ℤ-trans, <ℤ-weaken, ≤ℤ-antisym; +ℤ-mono, *ℤ-mono, *ℤ-cancel-r;
+-- nonneg-pos, nonneg-+, nonneg-*; positive-pos, positive-*, positive-+-l, positive-+-r.
 use mathlib.Core.Path.{_≡_, refl, sym, _∙_, ap₂}
 use Prim.Native.Nat.{ℕ, zero, suc, _+_, _*_, _≤_, _<_}
 use native.Mathlib.Nat.{mul-le-mul-left, eq-of-mul-eq-mul-right}

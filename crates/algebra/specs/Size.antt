@@ -1,8 +1,8 @@
 -- Sizes: how far a whole number is from 0.
 --   Abs z n     |z| ≤ n; a record, so that z and n are read from a hypothesis
 --   of-abs z    what natAbs z is, for omega's list beside of+ and the like
--- Laws: natAbs-+, natAbs-back, natAbs-neg, natAbs-*, natAbs-sub, natAbs-nonneg;
--- abs-self, abs-weaken, abs-+, abs-neg, abs--, abs-*, abs-part, abs-rest; mag-abs, fits-abs, fits-wider (what fits 32 bits fits 64).
+-- Laws: natAbs-back, natAbs-neg, natAbs-sub, natAbs-nonneg;
+-- abs-self, abs-weaken, abs-+, abs--, abs-*, abs-part, abs-rest; fits-abs, fits-wider (what fits 32 bits fits 64).
 use mathlib.Core.Path.{_≡_, refl}
 use Prim.Native.Nat.{ℕ, suc, _+_, _*_, _-_, _^_, _≤_, _<_, min}
 use native.Mathlib.Nat.{mul-le-mul, le-refl, le-trans, lt-of-le-of-lt}
@@ -22,7 +22,7 @@ of-abs (pos n) = omega arith
 of-abs (negsuc n) = omega arith
 
 -- ---- natAbs
-pub natAbs-+ : (a b : ℤ) → natAbs (a +ℤ b) ≤ natAbs a + natAbs b
+natAbs-+ : (a b : ℤ) → natAbs (a +ℤ b) ≤ natAbs a + natAbs b
 natAbs-+ a b = omega (arith, of-abs a, of-abs b, of-abs (a +ℤ b), of+ a b)
 
 -- what is taken away moves a number by no more than its size
@@ -32,7 +32,7 @@ natAbs-back a b = omega (arith, of-abs a, of-abs b, of-abs (a -ℤ b), of- a b)
 pub natAbs-neg : (a : ℤ) → natAbs (negℤ a) ≡ natAbs a
 natAbs-neg a = omega (arith, of-abs a, of-abs (negℤ a), of-neg a)
 
-pub natAbs-* : (a b : ℤ) → natAbs (a *ℤ b) ≡ natAbs a * natAbs b
+natAbs-* : (a b : ℤ) → natAbs (a *ℤ b) ≡ natAbs a * natAbs b
 natAbs-* (pos a) (pos b) = refl
 natAbs-* (pos a) (negsuc b) = natAbs-neg (pos (a * suc b))
 natAbs-* (negsuc a) (pos b) = natAbs-neg (pos (suc a * b))
@@ -54,7 +54,7 @@ abs-weaken h k = record { bound = le-trans (h .bound) k }
 pub abs-+ : {a b : ℤ} {m n : ℕ} → Abs a m → Abs b n → Abs (a +ℤ b) (m + n)
 abs-+ {a} {b} h k = omega (arith, natAbs-+ a b)
 
-pub abs-neg : {a : ℤ} {m : ℕ} → Abs a m → Abs (negℤ a) m
+abs-neg : {a : ℤ} {m : ℕ} → Abs a m → Abs (negℤ a) m
 abs-neg {a} h = record { bound = rw (natAbs-neg a) (h .bound) }
 
 pub abs-- : {a b : ℤ} {m n : ℕ} → Abs a m → Abs b n → Abs (a -ℤ b) (m + n)
@@ -72,7 +72,7 @@ pub abs-rest : {a b : ℤ} {m n : ℕ} → Abs a m → Abs (a +ℤ b) n → Abs 
 abs-rest {a} {b} h k = omega (arith, of-abs a, of-abs b, of-abs (a +ℤ b), of+ a b)
 
 -- ---- the range of a signed width
-pub mag-abs : {z : ℤ} {n H : ℕ} → Abs z n → n < H → mag z < H
+mag-abs : {z : ℤ} {n H : ℕ} → Abs z n → n < H → mag z < H
 mag-abs {z} h k = lt-of-le-of-lt (le-trans (mag-le z) (h .bound)) k
   where
     mag-le : (z : ℤ) → mag z ≤ natAbs z

@@ -1,8 +1,7 @@
 -- Finite sums.
 --   sum n f      f 0 + .. + f (n − 1); 0 where n is 0
 --   sumZ s n f   f s + f (s + 1) + .. + f (s + n − 1), from a whole number s on; 0 where n is 0
--- Laws: sum-ext, sum-none, sum-+, sum-*;
--- sum-first, sum-split, sum-blocks, sum-next; sum-wide, sum-same, sum-only, sum-where;
+-- Laws: sum-ext, sum-none, sum-+, sum-*; sum-first, sum-split, sum-blocks, sum-next; sum-wide, sum-same, sum-where;
 -- sum-abs, sum-nonneg, sum-positive, sum-part, sum-weighted.
 use mathlib.Core.Path.{_≡_, refl, sym, _∙_, ap, ap₂}
 use mathlib.Core.Logic.{_≢_}
@@ -78,7 +77,7 @@ sum-same m n f h k = go (decLe m n)
     go (yes l) = sym (sum-wide m n f l h)
     go (no l) = sum-wide n m f (omega arith) k
 
-pub sum-only : (n p : ℕ) (f : ℕ → ℤ) → p < n → ((i : ℕ) → i < n → i ≢ p → f i ≡ pos 0) → sum n f ≡ f p
+sum-only : (n p : ℕ) (f : ℕ → ℤ) → p < n → ((i : ℕ) → i < n → i ≢ p → f i ≡ pos 0) → sum n f ≡ f p
 unfolding sum
 sum-only zero p f l h = absurd (omega arith)
 sum-only (suc n) p f l h = go (ℕ-discrete p n) (sum-only n p f)

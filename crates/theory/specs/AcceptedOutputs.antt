@@ -1,6 +1,6 @@
 -- The rows of an output, of any shape: which positions they answer; the results of a series and of a picture are put out exactly where their bounds hold.
 --   Lent s M r n   what rows 8 and 12 ask: results r and n cells as many as the shape has, and no result above M times the divisor
--- Laws: output-rising, output-numbered; output-lent, lent-output (rows 1 to 8, and what is lent), output-bounds (the bound, and its product with the divisor); output-position (at 12), output-no-position (else);
+-- Laws: output-rising, output-numbered; output-lent (rows 1 to 8, and what is lent), output-bounds (the bound, and its product with the divisor); output-position (at 12), output-no-position (else);
 -- series-out-allowed, allowed-series-out, series-out-divisor; picture-out-allowed, allowed-picture-out, picture-out-divisor (the divisor is not 0), picture-out-some (there are results).
 use mathlib.Core.Path.{_≡_, refl}
 use mathlib.Core.Bool.{Bool, false, _||_}
@@ -62,7 +62,7 @@ module _ (s : Shape) (M : ℕ) (r : List ℤ) (n : ℕ) where
   pub output-bounds : firstOf rows .number ≡ 0 → ((least ≤ M) × (M ≤ maxBound)) × (M * s .divisor ≤ maxResult)
   output-bounds e = shape-bounds s M false (output-lent e .0)
 
-  pub lent-output : Off (commonRows s M false) → Lent s M r n → firstOf rows ≡ done
+  lent-output : Off (commonRows s M false) → Lent s M r n → firstOf rows ≡ done
   unfolding outputRows
   lent-output h ok =
       off-done rows (off-shape s M wrong 12 (length r) large h (no-or (no-differs (ok .count)) (no-differs (ok .cells))) (λ i l. le-ltb _ _ (ok .results i l)))

@@ -1,6 +1,5 @@
 -- The rows of smoothing, of any shape: which positions they answer; a series and a picture are smoothed exactly where their bounds hold.
---   Lent s M f nr nw   what rows 8 and 11 ask: samples f, results nr and work nw as many as the shape has cells, and no sample above M
--- Laws: smooth-rising, smooth-numbered; smooth-lent, lent-smooth (rows 1 to 8, and what is lent); smooth-position (at 11), smooth-no-position (else);
+-- Laws: smooth-rising, smooth-numbered; smooth-position (at 11), smooth-no-position (else);
 -- series-allowed, allowed-series; picture-allowed, allowed-picture.
 use mathlib.Core.Path.{_≡_, refl}
 use mathlib.Core.Bool.{Bool, false, _||_}
@@ -20,11 +19,12 @@ use Rattle.theory.specs.ShapeRows.{shape-off, off-shape, shape-position,
 use Rattle.theory.specs.Tests.{or-no, no-or, differs-no, no-differs}
 use Rattle.theory.specs.Accepted.{length-allowed, allowed-length, sides-allowed, allowed-sides}
 
-pub record Lent (s : Shape) (M : ℕ) (f : List ℤ) (nr nw : ℕ) : Type 0 where
-  pub count : length f ≡ s .cells
-  pub results : nr ≡ s .cells
-  pub work : nw ≡ s .cells
-  pub samples : (i : ℕ) → i < length f → natAbs (at f i) ≤ M
+-- what rows 8 and 11 ask: samples, results and work as many as the shape has cells, and no sample above M
+record Lent (s : Shape) (M : ℕ) (f : List ℤ) (nr nw : ℕ) : Type 0 where
+  count : length f ≡ s .cells
+  results : nr ≡ s .cells
+  work : nw ≡ s .cells
+  samples : (i : ℕ) → i < length f → natAbs (at f i) ≤ M
 
 module _ (s : Shape) (M : ℕ) (f : List ℤ) (nr nw : ℕ) where
   abbrev wrong : Bool
@@ -51,7 +51,7 @@ module _ (s : Shape) (M : ℕ) (f : List ℤ) (nr nw : ℕ) where
   unfolding planRows sizeRows
   common-unplaced = tt
 
-  pub smooth-lent : firstOf rows .number ≡ 0 → Off (commonRows s M false) × Lent s M f nr nw
+  smooth-lent : firstOf rows .number ≡ 0 → Off (commonRows s M false) × Lent s M f nr nw
   unfolding smoothRows
   smooth-lent e =
       let (h, w, t) = shape-off s M wrong 11 (length f) large (done-off rows smooth-numbered e) in
@@ -59,7 +59,7 @@ module _ (s : Shape) (M : ℕ) (f : List ℤ) (nr nw : ℕ) where
       let (a, b) = or-no (differs (length f) (s .cells)) (differs nr (s .cells)) both in
       (h, record { count = differs-no _ _ a; results = differs-no _ _ b; work = differs-no _ _ c; samples = λ i l. ltb-false _ _ (t i l) })
 
-  pub lent-smooth : Off (commonRows s M false) → Lent s M f nr nw → firstOf rows ≡ done
+  lent-smooth : Off (commonRows s M false) → Lent s M f nr nw → firstOf rows ≡ done
   unfolding smoothRows
   lent-smooth h ok =
       off-done rows (off-shape s M wrong 11 (length f) large h (no-or (no-or (no-differs (ok .count)) (no-differs (ok .results))) (no-differs (ok .work))) (λ i l. le-ltb _ _ (ok .samples i l)))

@@ -1,10 +1,8 @@
 -- The half-sample symmetric fold, document 01's extension, is a Folding and has Nearness.
 --   half-sample        the Folding
 --   half-sample-near   the Nearness
--- Laws: emod-below, emod-small, emod-period, emod-shift (z and its remainder go on alike), emod-mirror;
--- reflect-low, reflect-high, reflect-min (both, for omega);
--- fold-at (a place by its period), fold-period, fold-mirror (-1 - z reads as z does),
--- fold-negsuc (the same of pos n), ext-negsuc (of a series).
+-- Laws: emod-below, emod-shift (z and its remainder go on alike); reflect-low, reflect-high, reflect-min (both, for omega);
+-- fold-at (a place by its period), fold-negsuc (-1 - n reads as n does), ext-negsuc (of a series).
 use mathlib.Core.Path.{_≡_, refl, sym, _∙_, ap}
 use mathlib.Core.List.{List, [], _∷_}
 use Prim.Native.Nat.{ℕ, suc, _+_, _*_, _-_, _/_, _≤_, _<_, min}
@@ -37,10 +35,10 @@ emod-same z k {p} h e = ap (λ y. emod y p) e ∙ emod-is (divided-shift (emod-d
 pub emod-below : (z : ℤ) {p : ℕ} → 0 < p → emod z p < p
 emod-below z h = emod-divided z h .1 .below
 
-pub emod-small : {n p : ℕ} → n < p → emod (pos n) p ≡ n
+emod-small : {n p : ℕ} → n < p → emod (pos n) p ≡ n
 emod-small h = emod-is {q = pos 0} (record { below = h; is = simp diff (omega linear) })
 
-pub emod-period : (z : ℤ) {p : ℕ} → 0 < p → emod (z +ℤ pos p) p ≡ emod z p
+emod-period : (z : ℤ) {p : ℕ} → 0 < p → emod (z +ℤ pos p) p ≡ emod z p
 emod-period z h = emod-same z (pos 1) h (rw (rep z) (simp diff (omega linear)))
 
 pub emod-shift : (z d : ℤ) {p : ℕ} → 0 < p → emod (z +ℤ d) p ≡ emod (pos (emod z p) +ℤ d) p
@@ -51,7 +49,7 @@ emod-shift z d {p} h =
     regroup : (a b c : ℤ) → a +ℤ b +ℤ c ≡ b +ℤ c +ℤ a
     regroup a b c = simp ac
 
-pub emod-mirror : (z : ℤ) {p : ℕ} → 0 < p → emod (negsuc 0 -ℤ z) p ≡ p - suc (emod z p)
+emod-mirror : (z : ℤ) {p : ℕ} → 0 < p → emod (negsuc 0 -ℤ z) p ≡ p - suc (emod z p)
 emod-mirror z {p} h =
     let (q, e) = emod-divided z h in
     emod-is {q = negsuc 0 -ℤ q} (record { below = omega arith; is = ap (λ y. negsuc 0 -ℤ y) (e .is) ∙ mirrored p (emod z p) q (e .below) })
@@ -92,7 +90,7 @@ module _ (N : ℕ) (h : 0 < N) where
   unfolding fold
   fold-below z = omega (arith, reflect-min N (emod z (2 * N)), emod-below z {p = 2 * N} (omega arith))
 
-  pub fold-period : (z : ℤ) → fold N (z +ℤ pos (2 * N)) ≡ fold N z
+  fold-period : (z : ℤ) → fold N (z +ℤ pos (2 * N)) ≡ fold N z
   unfolding fold
   fold-period z = ap (reflect N) (emod-period z (omega arith))
 
@@ -100,7 +98,7 @@ module _ (N : ℕ) (h : 0 < N) where
   unfolding fold
   fold-shift z d = ap (reflect N) (emod-shift z d (omega arith))
 
-  pub fold-mirror : (z : ℤ) → fold N (negsuc 0 -ℤ z) ≡ fold N z
+  fold-mirror : (z : ℤ) → fold N (negsuc 0 -ℤ z) ≡ fold N z
   unfolding fold
   fold-mirror z = ap (reflect N) (emod-mirror z (omega arith)) ∙ reflect-mirror N (emod z (2 * N)) (emod-below z (omega arith))
 

@@ -2,7 +2,6 @@
 --   moment-append      variances add: of stages one after the other, each one's moment times the other's divisor
 --   moment-replicate   the variance of K equal stages is K times that of one
 --   moment-stage       that of one stage, in its radius and weights: (r(r+1)(2r+1)b + 6(r+1)²a) / 3 over the sum of its taps
--- Laws: kernel-centred, convolved-square; moment-append, moment-cons, moment-replicate, moment-stage.
 use mathlib.Core.Path.{_≡_, refl, sym, _∙_, ap, ap₂}
 use mathlib.Core.List.{List, [], _∷_, _++_}
 use Prim.Native.Nat.{ℕ, zero, suc, _+_, _*_}
@@ -22,7 +21,7 @@ use Rattle.theory.specs.Kernel.{tap-split, kernel-symmetric}
 use Rattle.theory.specs.Convolution.{passAt-ext, convolved-ext, convolved-none, convolved-cons, convolved-append, convolved-const, convolved-+, convolved-*, kernel-sum}
 
 -- ---- its first moment is 0
-pub kernel-centred : (ss : List Stage) → sumWithin (width ss) (λ m. kernel ss m *ℤ m) ≡ pos 0
+kernel-centred : (ss : List Stage) → sumWithin (width ss) (λ m. kernel ss m *ℤ m) ≡ pos 0
 kernel-centred ss = half (sumWithin (width ss) (λ m. kernel ss m *ℤ m)) (
     ap (λ z. sumWithin (width ss) (λ m. kernel ss m *ℤ m) +ℤ z) (sym (within-neg (width ss) (λ m. kernel ss m *ℤ m)))
     ∙ sym (within-+ (width ss) _ _)
@@ -32,7 +31,7 @@ kernel-centred ss = half (sumWithin (width ss) (λ m. kernel ss m *ℤ m)) (
     half x e = omega (zarith, of+ x x)
 
 -- ---- variances add
-pub convolved-square : (ss : List Stage) (n : ℤ) → convolved ss (λ x. x *ℤ x) n ≡ moment ss +ℤ pos (divisor ss) *ℤ (n *ℤ n)
+convolved-square : (ss : List Stage) (n : ℤ) → convolved ss (λ x. x *ℤ x) n ≡ moment ss +ℤ pos (divisor ss) *ℤ (n *ℤ n)
 unfolding moment convolved
 convolved-square ss n =
     within-ext _ (λ m l. square (kernel ss m) m n)
@@ -61,7 +60,7 @@ moment-append ss ts =
     regroup : (d v e u : ℤ) → d *ℤ v +ℤ e *ℤ u ≡ u *ℤ e +ℤ d *ℤ v
     regroup d v e u = simp ac
 
-pub moment-cons : (s : Stage) (ss : List Stage) → moment (s ∷ ss) ≡ moment (s ∷ []) *ℤ pos (divisor ss) +ℤ pos (tapSum s) *ℤ moment ss
+moment-cons : (s : Stage) (ss : List Stage) → moment (s ∷ ss) ≡ moment (s ∷ []) *ℤ pos (divisor ss) +ℤ pos (tapSum s) *ℤ moment ss
 moment-cons s ss = moment-append (s ∷ []) ss ∙ ap (λ d. moment (s ∷ []) *ℤ pos (divisor ss) +ℤ pos d *ℤ moment ss) (unfold divisor in mul-one (tapSum s))
 
 moment-none : moment [] ≡ pos 0

@@ -1,7 +1,6 @@
 -- The order of stages does not matter.
 --   Reordered ss ts   ts has the stages of ss, in some order
--- Laws: append-order (which of two lists comes first);
--- convolved-order, kernel-order.
+-- Laws: append-order (which of two lists comes first), kernel-order.
 use mathlib.Core.Path.{_≡_, refl, sym, _∙_, ap}
 use mathlib.Core.List.{List, [], _∷_, _++_, append-nil}
 use lib.IntN.{ℤ}
@@ -27,7 +26,7 @@ pub append-order : (ss ts : List Stage) → Reordered (ss ++ ts) (ts ++ ss)
 append-order [] ts = rw (append-nil ts) (reordered ts)
 append-order (s ∷ ss) ts = then (keep s (append-order ss ts)) (sink s ts ss)
 
-pub convolved-order : {ss ts : List Stage} → Reordered ss ts → (e : ℤ → ℤ) (n : ℤ) → convolved ss e n ≡ convolved ts e n
+convolved-order : {ss ts : List Stage} → Reordered ss ts → (e : ℤ → ℤ) (n : ℤ) → convolved ss e n ≡ convolved ts e n
 convolved-order empty e n = refl
 convolved-order {ss = _ ∷ ss} {ts = _ ∷ ts} (keep s o) e n = convolved-cons s ss e n ∙ passAt-ext s (convolved-order o e) n ∙ sym (convolved-cons s ts e n)
 convolved-order (swap s t ss) e n = two s t ∙ passAt-swap s t (convolved ss e) n ∙ sym (two t s)

@@ -2,7 +2,7 @@
 --   repeated K g f   g (g (.. f)), K times
 -- A symmetric kernel commutes with a folding, so the extension of the results is the result at every whole n (ext-results).
 -- Then a stage in front is one pass more (results-cons), and K equal stages are K passes (results-replicate).
--- Laws: length-results, at-results, length-pass, at-pass; result-none, result-cons, result-empty (of no samples);
+-- Laws: length-results, at-results, length-pass, at-pass; result-cons, result-empty (of no samples);
 -- result-fold, ext-results; results-none, results-cons, results-append, results-replicate.
 use mathlib.Core.Path.{_≡_, refl, sym, _∙_, ap}
 use mathlib.Core.List.{List, [], _∷_, _++_}
@@ -40,7 +40,7 @@ module _ (φ : IndexMap) where
   at-pass s f n h = at-listOf (length f) _ n h
 
   -- ---- at every whole n
-  pub result-none : (f : List ℤ) (n : ℤ) → result φ [] f n ≡ ext φ f n
+  result-none : (f : List ℤ) (n : ℤ) → result φ [] f n ≡ ext φ f n
   unfolding result
   result-none f n = convolved-none (ext φ f) n
 

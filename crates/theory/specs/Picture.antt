@@ -1,10 +1,7 @@
 -- Pictures: smoothing across and down, in either order, gives `picture`; and how large it grows.
 --   Keeps op   op leaves a series as long as it is
--- Laws: length-grid, cell-grid, grid-ext, cells-ext (a picture is known by its cells), grid-cell;
--- length-row, length-column, at-row, at-column, row-inside (a row ends within the picture), row-part (a row is a stretch of the picture);
--- ext-column, sized-column (a column without ends);
--- length-across, length-down, length-picture, cell-down, cell-picture;
--- down-ext, down-down (one after another), row-across, column-down (what was done to each row is found in each row);
+-- Laws: length-row, at-row, row-inside (a row ends within the picture), row-part (a row is a stretch of the picture);
+-- ext-column (a column without ends), sized-column; length-across, length-down, length-picture, cell-picture; row-across (what was done to each row is found in each row);
 -- down-none, down-cons (a stage in front is one pass more over every column), cell-passed (a cell after one pass down);
 -- rows-first, columns-first, either-first; across-size, down-size, picture-size.
 use mathlib.Core.Path.{_≡_, refl, sym, _∙_, ap, ap₂}
@@ -27,12 +24,12 @@ use Rattle.theory.specs.Passes.{length-results, at-results, at-pass, res
 use Rattle.theory.specs.Sizes.{convolved-size}
 
 -- ---- a picture by its cells
-pub length-grid : (W H : ℕ) (g : ℕ → ℕ → ℤ) → length (grid W H g) ≡ W * H
+length-grid : (W H : ℕ) (g : ℕ → ℕ → ℤ) → length (grid W H g) ≡ W * H
 unfolding grid
 length-grid W zero g = sym (mul-zero W)
 length-grid W (suc H) g = length-append (listOf W (λ x. g x 0)) (grid W H (λ x y. g x (suc y))) ∙ rw (length-listOf W (λ x. g x 0), length-grid W H (λ x y. g x (suc y))) (omega arith)
 
-pub cell-grid : (W H : ℕ) (g : ℕ → ℕ → ℤ) (x y : ℕ) → x < W → y < H → cell W (grid W H g) x y ≡ g x y
+cell-grid : (W H : ℕ) (g : ℕ → ℕ → ℤ) (x y : ℕ) → x < W → y < H → cell W (grid W H g) x y ≡ g x y
 unfolding grid
 cell-grid W zero g x y hx hy = absurd (omega arith)
 cell-grid W (suc H) g x zero hx hy =
@@ -43,7 +40,7 @@ cell-grid W (suc H) g x (suc y) hx hy =
     let e : suc y * W + x ≡ length first + (y * W + x) = omega (arith, length-listOf W (λ x. g x 0)) in
     rw e (getD-append-add first (grid W H (λ x y. g x (suc y))) (y * W + x) (pos 0) ∙ cell-grid W H (λ x y. g x (suc y)) x y hx (omega arith))
 
-pub grid-ext : (W H : ℕ) {g h : ℕ → ℕ → ℤ} → ((x y : ℕ) → x < W → y < H → g x y ≡ h x y) → grid W H g ≡ grid W H h
+grid-ext : (W H : ℕ) {g h : ℕ → ℕ → ℤ} → ((x y : ℕ) → x < W → y < H → g x y ≡ h x y) → grid W H g ≡ grid W H h
 unfolding grid
 grid-ext W zero e = refl
 grid-ext W (suc H) e = ap₂ _++_ (listOf-ext W (λ x l. e x 0 l (omega arith))) (grid-ext W H (λ x y l m. e x (suc y) l (omega arith)))
@@ -60,13 +57,13 @@ place : (W H i : ℕ) → i < W * H → Place W H i
 place zero H i h = absurd (omega arith)
 place (suc W) H i h = record { x = i % suc W; y = i / suc W; x< = mod-lt i (omega arith); y< = div-lt-iff-lt-mul {k = suc W} {x = i} {y = H} (omega arith) .1 (omega arith); is = omega (arith, div-add-mod' i (suc W)) }
 
-pub cells-ext : (W H : ℕ) (f g : List ℤ) → length f ≡ W * H → length g ≡ W * H → ((x y : ℕ) → x < W → y < H → cell W f x y ≡ cell W g x y) → f ≡ g
+cells-ext : (W H : ℕ) (f g : List ℤ) → length f ≡ W * H → length g ≡ W * H → ((x y : ℕ) → x < W → y < H → cell W f x y ≡ cell W g x y) → f ≡ g
 cells-ext W H f g lf lg e = ext-getD (pos 0) f g (lf ∙ sym lg) (λ i l. go (place W H i (omega arith)))
   where
     go : {i : ℕ} → Place W H i → at f i ≡ at g i
     go p = rw (p .is) (e (p .x) (p .y) (p .x<) (p .y<))
 
-pub grid-cell : (W H : ℕ) (f : List ℤ) → length f ≡ W * H → grid W H (cell W f) ≡ f
+grid-cell : (W H : ℕ) (f : List ℤ) → length f ≡ W * H → grid W H (cell W f) ≡ f
 grid-cell W H f e = cells-ext W H _ f (length-grid W H (cell W f)) e (cell-grid W H (cell W f))
 
 sized-grid : {M : ℕ} (W H : ℕ) (g : ℕ → ℕ → ℤ) → ((x y : ℕ) → Abs (g x y) M) → Sized M (grid W H g)
@@ -83,7 +80,7 @@ pub length-row : (W : ℕ) (f : List ℤ) (y : ℕ) → length (row W f y) ≡ W
 unfolding row
 length-row W f y = length-listOf W _
 
-pub length-column : (W H : ℕ) (f : List ℤ) (x : ℕ) → length (column W H f x) ≡ H
+length-column : (W H : ℕ) (f : List ℤ) (x : ℕ) → length (column W H f x) ≡ H
 unfolding column
 length-column W H f x = length-listOf H _
 
@@ -91,7 +88,7 @@ pub at-row : (W : ℕ) (f : List ℤ) (x y : ℕ) → x < W → at (row W f y) x
 unfolding row
 at-row W f x y h = at-listOf W _ x h
 
-pub at-column : (W H : ℕ) (f : List ℤ) (x y : ℕ) → y < H → at (column W H f x) y ≡ cell W f x y
+at-column : (W H : ℕ) (f : List ℤ) (x y : ℕ) → y < H → at (column W H f x) y ≡ cell W f x y
 unfolding column
 at-column W H f x y h = at-listOf H _ y h
 
@@ -115,7 +112,7 @@ pub length-down : (op : List ℤ → List ℤ) (W H : ℕ) (f : List ℤ) → le
 unfolding down
 length-down op W H f = length-grid W H _
 
-pub cell-down : (op : List ℤ → List ℤ) (W H : ℕ) (f : List ℤ) (x y : ℕ) → x < W → y < H → cell W (down op W H f) x y ≡ at (op (column W H f x)) y
+cell-down : (op : List ℤ → List ℤ) (W H : ℕ) (f : List ℤ) (x y : ℕ) → x < W → y < H → cell W (down op W H f) x y ≡ at (op (column W H f x)) y
 unfolding down
 cell-down op W H f x y = cell-grid W H _ x y
 
@@ -127,7 +124,7 @@ pub cell-picture : (φ ψ : IndexMap) (hs vs : List Stage) (W H : ℕ) (f : List
 unfolding picture
 cell-picture φ ψ hs vs W H f x y = cell-grid W H _ x y
 
-pub down-ext : (p q : List ℤ → List ℤ) (W H : ℕ) (f : List ℤ) → ((g : List ℤ) → length g ≡ H → p g ≡ q g) → down p W H f ≡ down q W H f
+down-ext : (p q : List ℤ → List ℤ) (W H : ℕ) (f : List ℤ) → ((g : List ℤ) → length g ≡ H → p g ≡ q g) → down p W H f ≡ down q W H f
 unfolding down
 down-ext p q W H f e = grid-ext W H (λ x y l m. ap (λ (g : List ℤ). at g y) (e (column W H f x) (length-column W H f x)))
 
@@ -135,11 +132,11 @@ pub row-across : (op : List ℤ → List ℤ) → Keeps op → (W H : ℕ) (f : 
 unfolding row across
 row-across op k W H f y h = listOf-ext W (λ x l. cell-grid W H _ x y l h) ∙ listOf-at W (op (row W f y)) (k (row W f y) ∙ length-row W f y)
 
-pub column-down : (op : List ℤ → List ℤ) → Keeps op → (W H : ℕ) (f : List ℤ) (x : ℕ) → x < W → column W H (down op W H f) x ≡ op (column W H f x)
+column-down : (op : List ℤ → List ℤ) → Keeps op → (W H : ℕ) (f : List ℤ) (x : ℕ) → x < W → column W H (down op W H f) x ≡ op (column W H f x)
 unfolding column down
 column-down op k W H f x h = listOf-ext H (λ y l. cell-grid W H _ x y h l) ∙ listOf-at H (op (column W H f x)) (k (column W H f x) ∙ length-column W H f x)
 
-pub down-down : (p q : List ℤ → List ℤ) → Keeps q → (W H : ℕ) (f : List ℤ) → down p W H (down q W H f) ≡ down (λ l. p (q l)) W H f
+down-down : (p q : List ℤ → List ℤ) → Keeps q → (W H : ℕ) (f : List ℤ) → down p W H (down q W H f) ≡ down (λ l. p (q l)) W H f
 unfolding down
 down-down p q k W H f = grid-ext W H (λ x y l m. ap (λ (g : List ℤ). at (p g) y) (column-down q k W H f x l))
 

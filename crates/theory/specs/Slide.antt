@@ -6,7 +6,7 @@
 -- With no sum before it, a pass is its taps one after another (passAt-taps).
 -- The weighted sum runs the pass itself: the survey's equation 33 (passAt-slide).
 -- Either step stays within twice M times the sum of the taps (step-size); that this is never above M times the divisor of all passes says room-part.
--- Laws: window-none (of radius 0), window-grow, window-range, window-slide, passAt-window, passAt-taps, passAt-slide;
+-- Laws: window-none (of radius 0), window-grow, window-slide, passAt-window, passAt-taps, passAt-slide;
 -- window-size, step-size.
 use mathlib.Core.Path.{_≡_, refl, sym, _∙_, ap}
 use Prim.Native.Nat.{ℕ, suc, _+_, _*_, _≤_, _<_}
@@ -37,7 +37,7 @@ module _ (e : ℤ → ℤ) where
   unfolding window sumWithin
   window-grow r n = refl
 
-  pub window-range : (r : ℕ) (n : ℤ) → window e r n ≡ sumZ (n -ℤ pos r) (2 * r + 1) e
+  window-range : (r : ℕ) (n : ℤ) → window e r n ≡ sumZ (n -ℤ pos r) (2 * r + 1) e
   unfolding window
   window-range r n = within-interval r n e
 

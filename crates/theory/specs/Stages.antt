@@ -1,8 +1,8 @@
 -- The numbers of stages one after the other, and of K equal ones.
 --   PositiveInner ss   every inner weight of ss is above 0
--- Laws: tapSum-is, divisor-cons; divisor-append; width-replicate, reach-replicate, divisor-replicate (of K equal stages);
+-- Laws: tapSum-is; width-replicate, reach-replicate, divisor-replicate (of K equal stages);
 -- divisor-plan, reach-edged, reach-plain (document 01's numbers of a plan);
--- inner-replicate, tapSum-positive, divisor-positive, divisor-part; replicate-part, reach-part; room-part, room-replicate.
+-- tapSum-positive, divisor-positive; reach-part; room-part, room-replicate.
 use mathlib.Core.Path.{_≡_, refl, sym, _∙_, ap}
 use mathlib.Core.List.{List, [], _∷_, _++_}
 use Prim.Native.Nat.{ℕ, zero, suc, _+_, _*_, _-_, _^_, _≤_, _<_}
@@ -17,11 +17,11 @@ unfolding tapSum
 tapSum-is s = refl
 
 -- ---- one after the other
-pub divisor-cons : (s : Stage) (ss : List Stage) → divisor (s ∷ ss) ≡ tapSum s * divisor ss
+divisor-cons : (s : Stage) (ss : List Stage) → divisor (s ∷ ss) ≡ tapSum s * divisor ss
 unfolding divisor
 divisor-cons s ss = refl
 
-pub divisor-append : (ss ts : List Stage) → divisor (ss ++ ts) ≡ divisor ss * divisor ts
+divisor-append : (ss ts : List Stage) → divisor (ss ++ ts) ≡ divisor ss * divisor ts
 unfolding divisor
 divisor-append [] ts = sym (one-mul (divisor ts))
 divisor-append (s ∷ ss) ts = rw (divisor-append ss ts) (sym (mul-assoc (tapSum s) (divisor ss) (divisor ts)))
@@ -58,7 +58,7 @@ pub data PositiveInner : List Stage → Type 0 where
   none : PositiveInner []
   _and_ : {s : Stage} {ss : List Stage} → 0 < s .inner → PositiveInner ss → PositiveInner (s ∷ ss)
 
-pub inner-replicate : (K : ℕ) (s : Stage) → 0 < s .inner → PositiveInner (replicate K s)
+inner-replicate : (K : ℕ) (s : Stage) → 0 < s .inner → PositiveInner (replicate K s)
 inner-replicate zero s h = none
 inner-replicate (suc K) s h = h and inner-replicate K s h
 
@@ -72,11 +72,11 @@ divisor-positive none = omega arith
 divisor-positive {ss = s ∷ ss} (h and p) = mul-pos (tapSum-positive s h) (divisor-positive p)
 
 -- the divisor of the passes so far is no larger than that of all
-pub divisor-part : {ss : List Stage} (ts : List Stage) → PositiveInner ss → divisor ts ≤ divisor (ss ++ ts)
+divisor-part : {ss : List Stage} (ts : List Stage) → PositiveInner ss → divisor ts ≤ divisor (ss ++ ts)
 divisor-part {ss} ts p = rw (divisor-append ss ts, mul-comm (divisor ss) (divisor ts)) (le-mul-of-pos-right (divisor ts) (divisor-positive p))
 
 -- k of K equal stages, and those to come
-pub replicate-part : (s : Stage) {k K : ℕ} → k ≤ K → replicate (K - k) s ++ replicate k s ≡ replicate K s
+replicate-part : (s : Stage) {k K : ℕ} → k ≤ K → replicate (K - k) s ++ replicate k s ≡ replicate K s
 replicate-part s {k} {K} h = let e : K - k + k ≡ K = omega arith in replicate-append-replicate (K - k) k s ∙ ap (λ n. replicate n s) e
 
 pub reach-part : (s : Stage) {k K : ℕ} → k ≤ K → reach (replicate k s) ≤ reach (replicate K s)
