@@ -6,7 +6,7 @@
 --   linear       rules for omega: what `diff` leaves, an equation of two differences
 -- An identity without cases: rw (rep a, rep b) (simp diff (omega linear)). Where constructors have met and computed, as in
 -- negsuc a -ℤ negsuc b, `diff` sees nothing: state the identity over variables, or use Order's of- and zarith.
--- Laws: ⊖-is, ⊖-neg, ⊖-negsuc, ⊖-eq, ⊖-halves, ⊖-+, ⊖-*; rep, rep-pos, rep-negsuc, rep-neg; sub-pos.
+-- Laws: +ℤ-left-comm; ⊖-is, ⊖-neg, ⊖-negsuc, ⊖-eq, ⊖-halves, ⊖-+, ⊖-*; rep, rep-pos, rep-negsuc, rep-neg; sub-pos.
 use mathlib.Core.Path.{_≡_, refl, sym, _∙_, ap}
 use Prim.Native.Nat.{ℕ, zero, suc, _+_, _*_, _-_, _≤_}
 use native.Mathlib.Nat.{add-comm}
@@ -72,15 +72,15 @@ pub ⊖-halves : (a b : ℕ) → plus (a ⊖ b) + b ≡ a + minus (a ⊖ b)
     go (lt k e) = rw (⊖-negsuc a b k e) (omega arith)
 
 -- ---- sums and products of differences
+pub +ℤ-left-comm : (a b c : ℤ) → a +ℤ (b +ℤ c) ≡ b +ℤ (a +ℤ c)
++ℤ-left-comm a b c = sym (+ℤ-assoc a b c) ∙ ap (λ z. z +ℤ c) (+ℤ-comm a b) ∙ +ℤ-assoc b a c
+
 pub ⊖-+ : (a b c d : ℕ) → (a ⊖ b) +ℤ (c ⊖ d) ≡ (a + c) ⊖ (b + d)
 unfolding _⊖_
 ⊖-+ a b c d = regroup (pos a) (pos c) (pos b) (pos d)
   where
-    left-comm : (x y z : ℤ) → x +ℤ (y +ℤ z) ≡ y +ℤ (x +ℤ z)
-    left-comm x y z = sym (+ℤ-assoc x y z) ∙ ap (λ s. s +ℤ z) (+ℤ-comm x y) ∙ +ℤ-assoc y x z
-
     regroup : (w x y z : ℤ) → (w -ℤ y) +ℤ (x -ℤ z) ≡ (w +ℤ x) -ℤ (y +ℤ z)
-    regroup w x y z = simp (+ℤ-assoc, negℤ-+ℤ, left-comm)
+    regroup w x y z = simp (+ℤ-assoc, negℤ-+ℤ, +ℤ-left-comm)
 
 pub ⊖-* : (a b c d : ℕ) → (a ⊖ b) *ℤ (c ⊖ d) ≡ (a * c + b * d) ⊖ (a * d + b * c)
 ⊖-* a b c d = go (compare a b) (compare c d)

@@ -1,13 +1,10 @@
 -- The ring laws that lib.IntN does not have.
 --   ac  rules for simp: a sum of products, each sorted; nothing cancels and no coefficients are joined
 -- A goal that needs cancelling is for Solver.
--- Laws: +ℤ-left-comm, sub-back; *ℤ-assoc, *ℤ-left-comm, *ℤ-idl, *ℤ-idr, *ℤ-zero-l, *ℤ-zero-r, *ℤ-+ℤ, +ℤ-*ℤ; negℤ-*ℤ, *ℤ-negℤ.
+-- Laws: sub-back; *ℤ-assoc, *ℤ-left-comm, *ℤ-idl, *ℤ-idr, *ℤ-zero-l, *ℤ-zero-r, *ℤ-+ℤ, +ℤ-*ℤ; negℤ-*ℤ, *ℤ-negℤ.
 use mathlib.Core.Path.{_≡_}
 use lib.IntN.{ℤ, pos, negℤ, _+ℤ_, _-ℤ_, _*ℤ_, +ℤ-comm, +ℤ-assoc, *ℤ-comm, negℤ-negℤ, negℤ-+ℤ, zero-*ℤ, *ℤ-zero}
-use Rattle.algebra.specs.Difference.{rep, diff, linear}
-
-pub +ℤ-left-comm : (a b c : ℤ) → a +ℤ (b +ℤ c) ≡ b +ℤ (a +ℤ c)
-+ℤ-left-comm a b c = rw (rep a, rep b, rep c) (simp diff (omega linear))
+use Rattle.algebra.specs.Difference.{+ℤ-left-comm, rep, diff, linear}
 
 pub sub-back : (a b : ℤ) → a -ℤ (a -ℤ b) ≡ b
 sub-back a b = rw (rep a, rep b) (simp diff (omega linear))

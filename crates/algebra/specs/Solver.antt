@@ -15,7 +15,8 @@ use native.Mathlib.Omega.{arith}
 use lib.Dec.{T, leb, ltb, eqb, eqb→eq}
 use lib.ListN.{getD}
 use lib.IntN.{ℤ, pos, negsuc, negℤ, _+ℤ_, _*ℤ_, +ℤ-idr, +ℤ-idl, +ℤ-assoc, *ℤ-zero, zero-*ℤ, negℤ-+ℤ}
-use Rattle.algebra.specs.Ring.{+ℤ-left-comm, *ℤ-assoc, *ℤ-left-comm, *ℤ-idl, *ℤ-idr, *ℤ-+ℤ, +ℤ-*ℤ, negℤ-*ℤ}
+use Rattle.algebra.specs.Difference.{+ℤ-left-comm}
+use Rattle.algebra.specs.Ring.{*ℤ-assoc, *ℤ-left-comm, *ℤ-idl, *ℤ-idr, *ℤ-+ℤ, +ℤ-*ℤ, negℤ-*ℤ}
 use Rattle.algebra.specs.Expression.{Expr, var, con, _⊕_, _⊝_, _⊗_, neg, value}
 use Rattle.algebra.specs.Polynomial.{Mono, insertIf, insert, times, Place, before, same, after, rankBy, rank, Poly, none, term, termUnless0, addTermBy, addTerm, add, mulTerm, mul, negate, normal}
 

@@ -52,6 +52,9 @@ unfolding sum
 sum-split m zero f = rw add-zero (sym (+ℤ-idr (sum m f)))
 sum-split m (suc n) f = rw (add-suc, sum-split m n f) (+ℤ-assoc (sum m f) (sum n (λ i. f (m + i))) (f (m + n)))
 
+sum-rest : (m n : ℕ) (f : ℕ → ℤ) → m ≤ n → sum n f ≡ sum m f +ℤ sum (n - m) (λ i. f (m + i))
+sum-rest m n f l = let e : n ≡ m + (n - m) = omega arith in ap (λ k. sum k f) e ∙ sum-split m (n - m) f
+
 -- k stretches of p terms
 pub sum-blocks : (k p : ℕ) (f : ℕ → ℤ) → sum (k * p) f ≡ sum k (λ i. sum p (λ j. f (i * p + j)))
 unfolding sum
@@ -65,10 +68,7 @@ sum-next n f e = sym (ap (λ z. sum n f +ℤ z) e ∙ +ℤ-idr (sum n f)) ∙ su
 
 -- ---- where most terms are 0
 pub sum-wide : (m n : ℕ) (f : ℕ → ℤ) → m ≤ n → ((i : ℕ) → m ≤ i → f i ≡ pos 0) → sum n f ≡ sum m f
-sum-wide m n f l h = ap (λ k. sum k f) to ∙ sum-split m (n - m) f ∙ ap (λ z. sum m f +ℤ z) (sum-none (n - m) (λ i t. h (m + i) (omega arith))) ∙ +ℤ-idr (sum m f)
-  where
-    to : n ≡ m + (n - m)
-    to = omega arith
+sum-wide m n f l h = sum-rest m n f l ∙ ap (λ z. sum m f +ℤ z) (sum-none (n - m) (λ i t. h (m + i) (omega arith))) ∙ +ℤ-idr (sum m f)
 
 pub sum-same : (m n : ℕ) (f : ℕ → ℤ) → ((i : ℕ) → m ≤ i → f i ≡ pos 0) → ((i : ℕ) → n ≤ i → f i ≡ pos 0) → sum m f ≡ sum n f
 sum-same m n f h k = go (decLe m n)
@@ -112,10 +112,7 @@ sum-positive (suc n) {f} h p l t = go (ℕ-discrete p n) (sum-positive n (λ i k
 
 -- the first of numbers that are not negative sum to no more than all of them
 pub sum-part : (m n : ℕ) {b : ℕ} {f : ℕ → ℤ} → m ≤ n → ((i : ℕ) → pos 0 ≤ℤ f i) → Abs (sum n f) b → Abs (sum m f) b
-sum-part m n {f = f} l h s = abs-part (sum-nonneg m (λ i k. h i)) (sum-nonneg (n - m) (λ i k. h (m + i))) (rw (ap (λ k. sum k f) to ∙ sum-split m (n - m) f) at s)
-  where
-    to : n ≡ m + (n - m)
-    to = omega arith
+sum-part m n {f = f} l h s = abs-part (sum-nonneg m (λ i k. h i)) (sum-nonneg (n - m) (λ i k. h (m + i))) (rw (sum-rest m n f l) at s)
 
 -- each f i at most b times its weight
 pub sum-weighted : (n b : ℕ) {w f : ℕ → ℤ} → ((i : ℕ) → pos 0 ≤ℤ w i) → ((i : ℕ) → i < n → Abs (f i) (b * natAbs (w i))) → Abs (sum n f) (b * natAbs (sum n w))

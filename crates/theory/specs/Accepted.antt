@@ -3,7 +3,7 @@
 -- plans-lower, plans-allowed (rows 1 to 4 of two plans);
 -- length-allowed, allowed-length (rows 1 to 8 of a series), length-tested (from their answer), length-accepted; sides-allowed, allowed-sides, sides-tested, sides-accepted (those of a picture);
 -- inner-allowed, divisor-allowed; accepted-divisor, accepted-reach, divisor-accepted, no-divisor, no-reach (a plan's own numbers).
-use mathlib.Core.Path.{_≡_, refl, sym, _∙_, ap}
+use mathlib.Core.Path.{_≡_, refl, sym, _∙_}
 use mathlib.Core.Bool.{Bool, false, _||_}
 use mathlib.Core.List.{List, [], _∷_}
 use Prim.Native.Nat.{ℕ, zero, suc, _*_, _≤_, _<_}
@@ -20,9 +20,6 @@ use Rattle.meaning.specs.Bounds.{AllowedStage, AllowedStages, AllowedPlan, Acce
 use Rattle.theory.specs.Stages.{PositiveInner, none, _and_, divisor-positive}
 use Rattle.theory.specs.Refusals.{Off, Numbered, Lower, done-off, off-done, off-append, append-off, off-more, more-off, two-lower, number-zero, common-numbered, ifDone-done, ifDone-refused}
 use Rattle.theory.specs.Tests.{some-one, some-replicate, or-no, no-or, outside-no, no-outside}
-
-number-of : {a b : Answer} → a ≡ b → a .number ≡ b .number
-number-of e = ap (λ (x : Answer). x .number) e
 
 -- ---- rows 1 to 4
 abbrev badPasses : List Stage → Bool
@@ -181,7 +178,7 @@ module _ (ss : List Stage) where
 
   accepted : AcceptedPlan ss → firstOf (ownRows ss) .number ≡ 0
   unfolding ownRows
-  accepted ok = number-of (off-done (ownRows ss) (off-append (planRows (ss ∷ [])) _ (allowed-plan ss (ok .plan)) (le-ltb _ _ (ok .divides), tt)))
+  accepted ok = number-zero (sym (off-done (ownRows ss) (off-append (planRows (ss ∷ [])) _ (allowed-plan ss (ok .plan)) (le-ltb _ _ (ok .divides), tt)))) refl
 
   accepting : firstOf (ownRows ss) .number ≡ 0 → AcceptedPlan ss
   unfolding ownRows

@@ -5,6 +5,7 @@
 use mathlib.Core.Path.{_≡_, refl, sym, ap, _∙_}
 use mathlib.Core.Bool.{Bool, not, true≢false}
 use mathlib.Core.List.{List, [], _∷_}
+use mathlib.Mathlib.Data.Bool.Basic.{eq-false-of-not-eq-true}
 use Prim.Native.Nat.{ℕ, _≤_}
 use native.Mathlib.Omega.{arith}
 use lib.ListN.{length, getD}
@@ -16,7 +17,7 @@ use Rattle.meaning.specs.Values.{takes, doubleRows}
 use Rattle.meaning.specs.Bounds.{WholeDouble, AllowedDoubles, FirstAt}
 use Rattle.theory.specs.Refusals.{done, Numbered, Rising, done-off, off-done, off-append, append-off}
 use Rattle.theory.specs.Places.{rowAt-off, rowAt-none, place-here, place-other, first-map}
-use Rattle.theory.specs.Tests.{outside-no, no-outside, differs-no, no-differs, not-yes}
+use Rattle.theory.specs.Tests.{outside-no, no-outside, differs-no, no-differs}
 use Rattle.theory.specs.Doubles.{takes-whole, whole-takes}
 
 abbrev pub lentRows : ℕ → ℕ → ℕ → List Row
@@ -72,7 +73,7 @@ module _ (M : ℕ) (xs : List Float) (n : ℕ) where
   module _ {x : Answer} (e : x ≡ firstOf rows) where
     pub double-position : x .number ≡ 11 → FirstAt (length xs) (λ i. WholeDouble M (getD xs i nan) → ⊥) (x .position)
     unfolding doubleRows
-    double-position h = first-map (λ i l k w. true≢false (sym (whole-takes _ w) ∙ not-true _ k)) (λ i l k. ap not (not-yes _ (λ t. k (takes-whole M _ t)))) (place-here 11 (length xs) lent tt untaken (omega arith) e h)
+    double-position h = first-map (λ i l k w. true≢false (sym (whole-takes _ w) ∙ not-true _ k)) (λ i l k. ap not (eq-false-of-not-eq-true (λ t. k (takes-whole M _ t)))) (place-here 11 (length xs) lent tt untaken (omega arith) e h)
 
     pub double-no-position : (x .number ≡ 11 → ⊥) → x .position ≡ 0
     unfolding doubleRows

@@ -5,6 +5,7 @@
 use mathlib.Core.Path.{_≡_, refl, sym, ap, _∙_}
 use mathlib.Core.Logic.{_⊎_, inl, inr, ⊎-map}
 use mathlib.Core.Bool.{Bool, true, false, cond, Bool·beq, true≢false}
+use mathlib.Mathlib.Data.Bool.Basic.{eq-false-of-not-eq-true}
 use Prim.Native.Nat.{ℕ, zero, suc, _+_, _*_, _-_, _/_, _%_, _^_, _≤_, _<_, min}
 use native.Mathlib.Omega.{arith}
 use native.Mathlib.Nat.{le-refl, mul-one, zero-mul, mul-right-comm, mul-div-cancel, mul-mod-left, div-add-mod', mul-lt-mul-of-pos-right, eq-of-mul-eq-mul-right}
@@ -18,7 +19,7 @@ use Rattle.algebra.specs.Size.{natAbs-neg}
 use Rattle.meaning.specs.Limits.{maxBound}
 use Rattle.meaning.specs.Values.{takes, plusZero}
 use Rattle.meaning.specs.Bounds.{WholeDouble}
-use Rattle.theory.specs.Tests.{and-yes, yes-and, yes-or, not-yes, same-when}
+use Rattle.theory.specs.Tests.{and-yes, yes-and, yes-or, same-when}
 use Rattle.theory.specs.Values.{whole-exact}
 
 -- ---- which doubles are taken: a finite one is m times up e over down e, and a whole number q where m times up e is q times down e
@@ -151,13 +152,13 @@ module _ (M : ℕ) (l : M ≤ maxBound) where
 
     -- the tests by which code takes one
     pub low-untaken : le (fin true 1 (pos 63)) x ≡ false → takes M x ≡ false
-    low-untaken k = not-yes (takes M x) (λ t. true≢false (sym (whole-near x (it t) (omega arith) .0) ∙ k))
+    low-untaken k = eq-false-of-not-eq-true (λ t. true≢false (sym (whole-near x (it t) (omega arith) .0) ∙ k))
 
     pub high-untaken : lt x (fin false 1 (pos 63)) ≡ false → takes M x ≡ false
-    high-untaken k = not-yes (takes M x) (λ t. true≢false (sym (whole-near x (it t) (omega arith) .1) ∙ k))
+    high-untaken k = eq-false-of-not-eq-true (λ t. true≢false (sym (whole-near x (it t) (omega arith) .1) ∙ k))
 
     pub large-untaken : M < natAbs (toSigned 63 x) → takes M x ≡ false
-    large-untaken k = not-yes (takes M x) (λ t. omega (arith, cut-size t 63 (omega arith)))
+    large-untaken k = eq-false-of-not-eq-true (λ t. omega (arith, cut-size t 63 (omega arith)))
 
     pub cut-taken : natAbs (toSigned 63 x) ≤ M → eq (ofInt binary64 (toSigned 63 x)) x ≡ takes M x
     cut-taken k = same-when _ _ (λ t. whole-takes x (equal-whole _ x (back-whole _ k) t)) (λ t. cut-same t 63 (omega arith))

@@ -31,9 +31,6 @@ bytes-take n {s} h = record { byte = λ i. go i (decLt i n) }
     go i (yes l) = rw (getD-take n s i 0 l) (h .byte i)
     go i (no l) = rw (List·getD-eq-default (take n s) 0 {n = i} (omega (arith, length-take n s))) (omega arith)
 
-bytes-tail : {b : ℕ} {s : List ℕ} → Bytes (b ∷ s) → Bytes s
-bytes-tail h = record { byte = λ i. h .byte (suc i) }
-
 -- ---- numbers as bytes
 pub length-bytes : (n x : ℕ) → length (bytes n x) ≡ n
 unfolding bytes
@@ -66,7 +63,7 @@ number-more bs i h = rw (add-one, take-suc bs i 0) (number-last (take i bs) (get
 pub number-below : (bs : List ℕ) → Bytes bs → number bs < 256 ^ length bs
 unfolding number
 number-below [] h = omega arith
-number-below (b ∷ bs) h = rw (pow-suc, mul-comm (256 ^ length bs) 256) (digits-lt (h .byte 0) (number-below bs (bytes-tail h)))
+number-below (b ∷ bs) h = rw (pow-suc, mul-comm (256 ^ length bs) 256) (digits-lt (h .byte 0) (number-below bs (bytes-drop 1 h)))
 
 pub number-part : (n at : ℕ) {s : List ℕ} → Bytes s → number (take n (drop at s)) < 256 ^ n
 number-part n at {s} h =
@@ -93,8 +90,8 @@ pub bytes-number : (bs : List ℕ) → Bytes bs → bytes (length bs) (number bs
 unfolding bytes number
 bytes-number [] h = refl
 bytes-number (b ∷ bs) h =
-    let rest = number-below bs (bytes-tail h) in
-    ap₂ _∷_ (rw (digits-div b rest) (mod-eq-of-lt (h .byte 0))) (bytes-low (length bs) b (number bs) ∙ bytes-number bs (bytes-tail h))
+    let rest = number-below bs (bytes-drop 1 h) in
+    ap₂ _∷_ (rw (digits-div b rest) (mod-eq-of-lt (h .byte 0))) (bytes-low (length bs) b (number bs) ∙ bytes-number bs (bytes-drop 1 h))
 
 -- ---- numbers as text
 last-digit : (b : Bool) (xs ys : List ℕ) (d : ℕ) → (b ≡ false → xs ≡ ys) → cond b [] xs ++ d ∷ [] ≡ cond b [] ys ++ d ∷ []

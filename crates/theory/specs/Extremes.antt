@@ -7,9 +7,9 @@ use Prim.Native.Nat.{ℕ, zero, suc, _+_, _-_, _<_}
 use mathlib.Core.Path.{_≡_, refl, sym, _∙_, ap}
 use mathlib.Core.Bool.{Bool, true, false, not, true≢false}
 use mathlib.Core.List.{List}
-use native.Mathlib.Decide.{decLt}
 use native.Mathlib.Numerals.{add-one}
 use native.Mathlib.Omega.{arith}
+use borrow.Author.Count.{below-more}
 use lib.ListN.{length}
 use lib.IntN.{ℤ, pos}
 use lib.Signed.{_≤ℤ_, ltZ, <ℤ-≤ℤ-trans, clashℤ}
@@ -55,21 +55,13 @@ module _ {beats : ℤ → ℤ → Bool} (o : Beating beats) where
     best-start = record { within = omega arith; unbeaten = λ j l. let e : j ≡ 0 = omega arith in rw e (self (at r 0)); first = λ j l. absurd (omega arith) }
 
     pub best-stays : {n b : ℕ} → Best beats r n b → beats (at r n) (at r b) ≡ false → Best beats r (n + 1) b
-    best-stays {n} {b} h e = record { within = omega (arith, h .within); unbeaten = λ j l. go j l (decLt j n); first = h .first }
-      where
-        go : (j : ℕ) → j < n + 1 → Dec (j < n) → beats (at r j) (at r b) ≡ false
-        go j l (yes m) = h .unbeaten j m
-        go j l (no m) = let same : j ≡ n = omega arith in rw same e
+    best-stays {n} {b} h e = record { within = omega (arith, h .within); unbeaten = below-more (λ j. beats (at r j) (at r b) ≡ false) n (h .unbeaten) e; first = h .first }
 
     pub best-next : {n b : ℕ} → Best beats r n b → beats (at r n) (at r b) ≡ true → Best beats r (n + 1) n
-    best-next {n} {b} h e = record { within = omega arith; unbeaten = λ j l. go j l (decLt j n); first = ahead }
+    best-next {n} {b} h e = record { within = omega arith; unbeaten = below-more (λ j. beats (at r j) (at r n) ≡ false) n (λ j l. o .turned (at r n) (at r j) (ahead j l)) (self (at r n)); first = ahead }
       where
         ahead : (j : ℕ) → j < n → beats (at r n) (at r j) ≡ true
         ahead j l = o .further (at r n) (at r b) (at r j) e (h .unbeaten j l)
-
-        go : (j : ℕ) → j < n + 1 → Dec (j < n) → beats (at r j) (at r n) ≡ false
-        go j l (yes m) = o .turned (at r n) (at r j) (ahead j m)
-        go j l (no m) = let same : j ≡ n = omega arith in rw same (self (at r n))
 
     pub best-done : {b : ℕ} → Best beats r (length r) b → unbeaten beats r ≡ b
     unfolding unbeaten

@@ -12,6 +12,7 @@ use Prim.Native.Nat.{ℕ, zero, suc, _+_, _≤_, _<_}
 use native.Mathlib.Decide.{decLt}
 use native.Mathlib.Omega.{arith}
 use lib.Dec.{ltb}
+use borrow.Author.Count.{below-none, below-more}
 use borrow.Author.Tests.{ltb-true, ltb-false, le-ltb, lt-ltb}
 use Rattle.meaning.specs.Refusals.{Answer, Row, firstOf, firstWhere, rowAt, within}
 use Rattle.meaning.specs.Bounds.{FirstAt}
@@ -57,11 +58,7 @@ abbrev pub Clear : (ℕ → Bool) → ℕ → Type 0
 Clear t i = (j : ℕ) → j < i → t j ≡ false
 
 pub all-next : {t : ℕ → Bool} {i : ℕ} → Clear t i → t i ≡ false → Clear t (i + 1)
-all-next {t} {i} h e j l = go (decLt j i)
-  where
-    go : Dec (j < i) → t j ≡ false
-    go (yes m) = h j m
-    go (no m) = let same : j ≡ i = omega arith in rw same e
+all-next {t} {i} = below-more (λ j. t j ≡ false) i
 
 module _ (n N : ℕ) where
   pub rowAt-ext : {t u : ℕ → Bool} → ((i : ℕ) → i < N → t i ≡ u i) → rowAt n N t ≡ rowAt n N u
@@ -108,7 +105,7 @@ first-map to from h = record { within = h .within; here = to _ (h .within) (h .h
 -- ---- a loop over all places
 module _ (n N : ℕ) (t : ℕ → Bool) where
   pub all-start : Clear t 0
-  all-start j l = absurd (omega arith)
+  all-start = below-none (λ j. t j ≡ false)
 
   pub all-found : (i : ℕ) → i < N → t i ≡ true → Clear t i → record { number = n; position = i } ≡ firstOf (rowAt n N t ∷ [])
   all-found i l e h = sym (rowAt-on n N i {t = t} l e h [])

@@ -6,7 +6,6 @@ use mathlib.Core.Path.{_≡_, refl, sym, _∙_, ap}
 use mathlib.Core.Bool.{Bool, true, false, cond, or-true}
 use mathlib.Core.List.{List, [], _∷_, _++_, append-assoc}
 use Prim.Native.Nat.{ℕ, suc, _+_, _*_, _≤_, _<_}
-use native.Mathlib.Nat.{le-trans, le-mul-of-pos-right, mul-comm}
 use native.Mathlib.Decide.{decLt}
 use native.Mathlib.Numerals.{add-one}
 use native.Mathlib.Omega.{arith}
@@ -25,7 +24,7 @@ use Rattle.meaning.specs.Record.{readRecord}
 use Rattle.meaning.specs.Program.{firstLine, resultLines, report, jobStages, jobSmoothed, program}
 use Rattle.theory.specs.Encoding.{length-decimal}
 use Rattle.theory.specs.Refusals.{ifDone-done, ifDone-refused}
-use Rattle.theory.specs.Accepted.{accepted-divisor}
+use Rattle.theory.specs.Accepted.{length-accepted, accepted-divisor}
 use Rattle.theory.specs.AcceptedSmoothings.{series-allowed}
 
 -- ---- the first line
@@ -79,9 +78,7 @@ inside a P new r s other = go (eqb (a .number) 0)
 module _ (φ : IndexMap) (ss : List Stage) (M : ℕ) (f : List ℤ) where
   pub done-divisor : (r w : List ℤ) → smoothSeries φ ss M f r w .answer .number ≡ 0 → planDivisor ss ≡ divisor ss
   unfolding smoothed
-  done-divisor r w z =
-      let ok = series-allowed ss M f (length r) (length w) z .common in
-      accepted-divisor ss (record { plan = ok .plan; divides = le-trans (rw (mul-comm M (divisor ss)) (le-mul-of-pos-right (divisor ss) (ok .bound .0))) (ok .product) })
+  done-divisor r w z = accepted-divisor ss (length-accepted (series-allowed ss M f (length r) (length w) z .common))
 
   -- neither line says what the results and work held
   pub report-lent : (D : ℕ) (r w s v : List ℤ) → length r ≡ length s → length w ≡ length v → report D (smoothSeries φ ss M f r w) ≡ report D (smoothSeries φ ss M f s v)

@@ -1,10 +1,10 @@
 -- Tests by what they test, and joined.
 -- Laws: or-no, no-or (both fail), or-yes, yes-or; and-yes, yes-and (both pass), and-no, no-and (the second fails where the first passes), and-when (the second matters there only);
--- not-yes, same-when (each of two tests passes where the other does);
+-- same-when (each of two tests passes where the other does);
 -- some-one, some-replicate, some-at, some-none; ltZ-true, ltZ-false, lt-ltZ, le-ltZ (of whole numbers); outside-no, no-outside; differs-no, no-differs; within-yes, within-before, within-behind.
 use mathlib.Core.Path.{_≡_, refl, sym, ap}
 use mathlib.Core.Logic.{_⊎_, inl, inr}
-use mathlib.Core.Bool.{Bool, true, false, not, _&&_, _||_, true≢false, or-false, and-false}
+use mathlib.Core.Bool.{Bool, true, false, not, _&&_, _||_, true≢false, or-false, or-self, and-false}
 use mathlib.Core.List.{List, [], _∷_}
 use Prim.Native.Nat.{ℕ, zero, suc, _≤_, _<_}
 use native.Mathlib.Omega.{arith}
@@ -50,18 +50,10 @@ pub and-when : (a : Bool) {b c : Bool} → (a ≡ true → b ≡ c) → (a && b)
 and-when true h = h refl
 and-when false h = refl
 
-pub not-yes : (a : Bool) → (a ≡ true → ⊥) → a ≡ false
-not-yes true h = absurd (h refl)
-not-yes false h = refl
-
 pub same-when : (a b : Bool) → (a ≡ true → b ≡ true) → (b ≡ true → a ≡ true) → a ≡ b
 same-when true b h k = sym (h refl)
 same-when false true h k = k refl
 same-when false false h k = refl
-
-or-same : (b : Bool) → (b || b) ≡ b
-or-same true = refl
-or-same false = refl
 
 pub some-one : {A : Type 0} (t : A → Bool) (x : A) → some t (x ∷ []) ≡ t x
 unfolding some
@@ -71,7 +63,7 @@ pub some-replicate : {A : Type 0} (t : A → Bool) (n : ℕ) (x : A) → 0 < n �
 unfolding some
 some-replicate t zero x l = absurd (omega arith)
 some-replicate t (suc zero) x l = or-false (t x)
-some-replicate t (suc (suc n)) x l = rw (some-replicate t (suc n) x (omega arith)) (or-same (t x))
+some-replicate t (suc (suc n)) x l = rw (some-replicate t (suc n) x (omega arith)) (or-self (t x))
 
 pub some-at : {A : Type 0} (t : A → Bool) (xs : List A) (x : A) (i : ℕ) → i < length xs → t (getD xs i x) ≡ true → some t xs ≡ true
 unfolding some
