@@ -102,7 +102,7 @@ near : (a b q : ℕ) → a * 1 ≡ q * b → 0 < b → q < 2 ^ 63 → a * 1 < 1 
 near a b q v p l = omega (arith, mul-lt-mul-of-pos-right l p)
 
 whole-near : {M : ℕ} (x : Float) → WholeDouble M x → M < 2 ^ 63 → (le (fin true 1 (pos 63)) x ≡ true) × (lt x (fin false 1 (pos 63)) ≡ true)
-unfolding le lt
+unfolding le
 whole-near nan w l = absurd (w .is)
 whole-near (inf s) w l = absurd (w .is)
 whole-near (fin true m e) w l = rw (lt-ltb (m * up e * 1) (1 * 2 ^ 63 * down e) (near (m * up e) (down e) (w .size) (w .is .1) (down-pos e) (omega (arith, w .most))), lt-ltb 0 (m * up e * 1 + 1 * 2 ^ 63 * down e) (omega (arith, down-pos e))) (refl, refl)

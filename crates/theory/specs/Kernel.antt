@@ -90,7 +90,7 @@ unfolding kernel
 kernel-none m = refl
 
 pub kernel-cons : (s : Stage) (ss : List Stage) (m : ℤ) → kernel (s ∷ ss) m ≡ passAt s (kernel ss) m
-unfolding kernel passAt
+unfolding kernel
 kernel-cons s ss m = refl
 
 neg-sub : (m j : ℤ) → negℤ m -ℤ j ≡ negℤ (m -ℤ negℤ j)

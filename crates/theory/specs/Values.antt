@@ -46,5 +46,5 @@ zero-by (fin false k d) h v =
     ap (λ (b : Bool). cond b nan (round binary64 false (0 * down d) (k * up d * 1))) (ne-eqb k 0 some) ∙ round-zero (0 * down d) (k * up d * 1) den (zero-mul (down d))
 
 pub ratio-zero : {d : ℕ} → least ≤ d → d ≤ maxResult → ratio (pos 0) d ≡ plusZero
-unfolding ratio ofInt round
+unfolding ratio ofInt
 ratio-zero {d} p h = zero-by (ofInt binary64 (pos d)) p (count-exact d h)
