@@ -11,6 +11,7 @@ use lib.IntN.{ℤ, pos, negsuc, negℤ, natAbs, _+ℤ_, _-ℤ_, _*ℤ_}
 use lib.Signed.{_≤ℤ_, mag}
 use mir.Syntax.{Width, w32, w64}
 use mir.Val.{SFits, hbits}
+use mir.Facts.{sfits-widen}
 use Rattle.algebra.specs.Difference.{plus, minus}
 use Rattle.algebra.specs.Order.{zarith, of+, of-, of-neg}
 
@@ -83,4 +84,4 @@ pub fits-abs : {w : Width} {z : ℤ} {n : ℕ} → Abs z n → n < 2 ^ hbits w �
 fits-abs h k = record { sfits = mag-abs h k }
 
 pub fits-wider : {z : ℤ} → SFits w32 z → SFits w64 z
-fits-wider f = record { sfits = omega (arith, f .sfits) }
+fits-wider = sfits-widen tt
