@@ -2,7 +2,7 @@
 --   half-sample        the Folding
 --   half-sample-near   the Nearness
 -- Laws: emod-below, emod-shift (z and its remainder go on alike); reflect-low, reflect-high, reflect-min (both, for omega);
--- fold-at (a place by its period), fold-negsuc (-1 - n reads as n does), ext-negsuc (of a series).
+-- fold-at (a place by its period), fold-period, fold-mirror (-1 - z reads as z does), fold-negsuc (the same of pos n), ext-negsuc (of a series).
 use mathlib.Core.Path.{_≡_, refl, sym, _∙_, ap}
 use mathlib.Core.List.{List, [], _∷_}
 use Prim.Native.Nat.{ℕ, suc, _+_, _*_, _-_, _/_, _≤_, _<_, min}
@@ -90,7 +90,7 @@ module _ (N : ℕ) (h : 0 < N) where
   unfolding fold
   fold-below z = omega (arith, reflect-min N (emod z (2 * N)), emod-below z {p = 2 * N} (omega arith))
 
-  fold-period : (z : ℤ) → fold N (z +ℤ pos (2 * N)) ≡ fold N z
+  pub fold-period : (z : ℤ) → fold N (z +ℤ pos (2 * N)) ≡ fold N z
   unfolding fold
   fold-period z = ap (reflect N) (emod-period z (omega arith))
 
@@ -98,7 +98,7 @@ module _ (N : ℕ) (h : 0 < N) where
   unfolding fold
   fold-shift z d = ap (reflect N) (emod-shift z d (omega arith))
 
-  fold-mirror : (z : ℤ) → fold N (negsuc 0 -ℤ z) ≡ fold N z
+  pub fold-mirror : (z : ℤ) → fold N (negsuc 0 -ℤ z) ≡ fold N z
   unfolding fold
   fold-mirror z = ap (reflect N) (emod-mirror z (omega arith)) ∙ reflect-mirror N (emod z (2 * N)) (emod-below z (omega arith))
 

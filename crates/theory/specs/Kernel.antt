@@ -1,5 +1,5 @@
 -- One pass's taps and the kernel of a list of stages: symmetric, never negative, 0 beyond the reach.
--- Laws: tap-nonneg, tap-split; tapReach-width, tap-positive;
+-- Laws: tap-inside, tap-edge, tap-nonneg, tap-split; tapReach-width, tap-outside (0 beyond its reach), tap-positive;
 -- kernel-none, kernel-cons (a stage more is a pass over the kernel), kernel-symmetric, kernel-nonneg;
 -- reach-width, kernel-outside (0 beyond the reach), kernel-beyond (so beyond the width).
 use mathlib.Core.Path.{_≡_, refl, sym, _∙_, ap, ap₂}
@@ -20,11 +20,11 @@ use Rattle.algebra.specs.Within.{sumWithin, Beyond, within-ext, within-none, wi
 use Rattle.meaning.specs.Kernel.{Stage, tap, kernel, width, tapReach, reach, passAt}
 
 -- ---- one pass
-tap-inside : (s : Stage) (m : ℤ) → natAbs m ≤ s .radius → tap s m ≡ pos (s .inner)
+pub tap-inside : (s : Stage) (m : ℤ) → natAbs m ≤ s .radius → tap s m ≡ pos (s .inner)
 unfolding tap
 tap-inside s m h = rw (le-leb _ _ h)
 
-tap-edge : (s : Stage) (m : ℤ) → natAbs m ≡ suc (s .radius) → tap s m ≡ pos (s .edge)
+pub tap-edge : (s : Stage) (m : ℤ) → natAbs m ≡ suc (s .radius) → tap s m ≡ pos (s .edge)
 unfolding tap
 tap-edge s m h = rw (lt-leb (natAbs m) (s .radius) (omega arith), eq-eqb _ _ h)
 
@@ -65,7 +65,7 @@ tapReach-width s = go (edge s)
     go (plain e i) = omega arith
     go (edged e i) = omega arith
 
-tap-outside : (s : Stage) → Beyond (tapReach s) (tap s)
+pub tap-outside : (s : Stage) → Beyond (tapReach s) (tap s)
 tap-outside s m h = go (edge s) (ℕ-discrete (natAbs m) (suc (s .radius)))
   where
     outside : suc (s .radius) < natAbs m → tap s m ≡ pos 0
