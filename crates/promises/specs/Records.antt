@@ -1,4 +1,4 @@
--- The job record: `record::read_record`, `stretch`, `sample` and `write_record`, each by its own contract, for all inputs.
+-- The job record: `reader::read_record`, `record::stretch`, `record::sample` and `writer::write_record`, each by its own contract, for all inputs.
 --   ReadCall, StretchCall, SampleCall, WriteCall   any call, as its contract lets it end
 --   Fields             what a record holds; recorded x is the record, Holds x that a record can hold it
 --   IsRecord s         s is the record of some fields that it can hold: numbers of their widths, 1 to 1,024 samples
@@ -47,10 +47,10 @@ use Rattle.plan.specs.declared.Answer.{Answer}
 use Rattle.plan.specs.Structs.{answerOf}
 use Rattle.record.specs.declared.Job.{Job}
 use Rattle.record.specs.Structs.{jobOf}
-use Rattle.record.proofs.read_record.Reads as read-record
-use Rattle.record.proofs.read_record.Kinds as read-kinds
-use Rattle.record.proofs.write_record.Reads as write-record
-use Rattle.record.proofs.write_record.Kinds as write-kinds
+use Rattle.reader.proofs.read_record.Reads as read-record
+use Rattle.reader.proofs.read_record.Kinds as read-kinds
+use Rattle.writer.proofs.write_record.Reads as write-record
+use Rattle.writer.proofs.write_record.Kinds as write-kinds
 use Rattle.record.proofs.stretch.Reads as stretch-of
 use Rattle.record.proofs.stretch.Kinds as stretch-kinds
 use Rattle.record.proofs.sample.Reads as sample-of

@@ -4,18 +4,15 @@ ghost use Prim.Native.Nat.{suc};
 ghost use lib.ListN.{length};
 ghost use Rattle.meaning.specs.Limits.{maxJob};
 
-mod job;
-mod lines;
-
 // So that a longer input shows. What follows is not read, and says nothing: law program-front.
-const MOST_READ: usize = job::MOST_BYTES + 1;
+const MOST_READ: usize = report::inner::MOST_BYTES + 1;
 
 fn main() {
     let mut input = input_buffer();
     let mut out = io::large_buffer();
     let n = io::read_full(libc::STDIN_FILENO, &mut input);
     see_end(n);
-    let end = job::report(&input[..n], &mut out);
+    let end = report::inner::report(&input[..n], &mut out);
     print(&out[..end]);
 }
 

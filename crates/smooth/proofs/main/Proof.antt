@@ -1,8 +1,19 @@
 -- The text fills the front of its slice, so that front can be lent.
+use mathlib.Core.Path.{_≡_, ap}
+use mathlib.Core.List.{List}
+use Prim.Native.Nat.{ℕ, _≤_}
+use native.Mathlib.Omega.{arith}
+use lib.ListN.{length, take, length-take}
 use borrow.Author.Needs.{needs}
-use Rattle.smooth.specs.Text.{text-counts}
+use Rattle.encoding.specs.Append.{Appended}
 use Rattle.smooth.proofs.main.Statement.{statement}
 use Rattle.smooth.proofs.main.Tie as tie
+
+-- a text put from the front lies within its slice
+text-counts : {s xs t : List ℕ} {end : ℕ} → Appended s 0 xs t end → (end ≤ length t) × (end ≡ length (take end t))
+text-counts {s} {xs} {t} {end} p =
+    let all : length (take end t) ≡ length xs = ap length (p .front) in
+    (omega (arith, p .behind, length-take end t), omega (arith, p .behind))
 
 input-buffer-requires : tie.Need-input-buffer-requires
 input-buffer-requires c κs = search needs
