@@ -18,7 +18,7 @@ use Rattle.theory.specs.Places.{rowAt-ext}
 use Rattle.theory.specs.Edits.{resultRow}
 use Rattle.theory.specs.AcceptedEdits.{front, Begun, front-begun, old-passes}
 use Rattle.plan.specs.Structs.{plain}
-use Rattle.plan.specs.Span.{span-one}
+use Rattle.refusals.specs.Span.{span-one}
 use Rattle.theory.specs.Placed.{placedRows, placed-refused, placed-rest}
 
 unfoldable pub frontRows : List Stage → ℕ → ℕ → ℤ → List ℤ → ℕ → ℕ → List Row

@@ -19,20 +19,20 @@ pub(crate) fn refusal(
     ensures { λ r. ⌜ answerOf r ≡ R.firstOf (frontRows (stagesOf plan) bound position value (now (samples .entry)) results work) ⌝ }
 {
     let n = samples.len();
-    let room = plan::inner::edit_room(n);
-    let wrong_length = plan::inner::lengths_differ(results, n, work, room);
-    let number = plan::inner::position_refusal(plan, bound, n, wrong_length, position);
+    let room = refusals::inner::edit_room(n);
+    let wrong_length = refusals::inner::lengths_differ(results, n, work, room);
+    let number = refusals::inner::position_refusal(plan, bound, n, wrong_length, position);
     if number != 0 {
         return Answer {
             number,
             position: 0,
         };
     }
-    if bound < plan::inner::size(value) {
+    if bound < refusals::inner::size(value) {
         return Answer {
             number: 10,
             position: 0,
         };
     }
-    plan::inner::sample_refusal(bound, samples, position, position + 1)
+    refusals::inner::sample_refusal(bound, samples, position, position + 1)
 }

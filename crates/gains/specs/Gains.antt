@@ -30,7 +30,7 @@ use Rattle.theory.specs.Lists.{length-listOf, at-listOf}
 use Rattle.theory.specs.Refusals.{done, Off, done-off, off-done, ifDone-refused, number-zero}
 use Rattle.theory.specs.Tests.{or-no, within-yes, within-before, within-behind}
 use Rattle.theory.specs.Places.{picked, rowAt-none}
-use Rattle.plan.specs.Span.{low, high}
+use Rattle.refusals.specs.Span.{low, high}
 use Rattle.taps.specs.Weigh.{weightIn, Weighable}
 
 unfoldable pub gainIn : List ℤ → ℕ → ℕ → ℤ → ℕ → ℤ

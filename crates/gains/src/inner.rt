@@ -26,10 +26,10 @@ fn too_large(limit: u64, old: i64, gain: i64) -> bool
     requires { ⌜ (limit ≤ maxResult) × (natAbs gain ≤ 2 * maxResult) ⌝ }
     ensures { λ r. ⌜ r ≡ R.above limit old || R.above limit (old +ℤ gain) ⌝ }
 {
-    if limit < plan::inner::size(old) {
+    if limit < refusals::inner::size(old) {
         return true;
     }
-    limit < plan::inner::size(old + gain)
+    limit < refusals::inner::size(old + gain)
 }
 
 // Row 12, of the results from start up to end.
@@ -91,8 +91,8 @@ pub fn edit_by(taps: &[i64], limit: u64, p: usize, change: i64, results: &mut [i
     ensures { λ r. ⌜ ChangesIn (now (taps .entry)) limit p change (now (results .entry)) (editAnswer r) (r .count) (now (results .exit)) ⌝ }
 {
     let reach = taps.len() - 1;
-    let start = plan::inner::reach_start(p, reach);
-    let end = plan::inner::reach_end(results.len(), p, reach);
+    let start = refusals::inner::reach_start(p, reach);
+    let end = refusals::inner::reach_end(results.len(), p, reach);
     let answer = result_refusal(taps, limit, p, change, results, start, end);
     if answer.number != 0 {
         return Edited {

@@ -15,7 +15,7 @@ fn result_refusal(limit: u64, results: &[i64]) -> Answer
 {
     let mut i: usize = 0;
     while i < results.len() {
-        if limit < plan::inner::size(results[i]) {
+        if limit < refusals::inner::size(results[i]) {
             return Answer {
                 number: 12,
                 position: i,
@@ -34,7 +34,7 @@ pub fn series(plan: Plan, bound: u64, results: &[i64], cells: usize) -> Answer
     ensures { λ r. ⌜ answerOf r ≡ R.firstOf (meant.outputRows (R.seriesOf (stagesOf plan) (length (now (results .entry)))) bound (now (results .entry)) cells) ⌝ }
 {
     let n = results.len();
-    let number = plan::inner::series_refusal(plan, bound, n, cells != n);
+    let number = refusals::inner::series_refusal(plan, bound, n, cells != n);
     if number != 0 {
         return Answer {
             number,
@@ -56,9 +56,9 @@ pub fn picture(
 ) -> Answer
     ensures { λ r. ⌜ answerOf r ≡ R.firstOf (meant.outputRows (R.pictureOf (stagesOf across) (stagesOf down) width height) bound (now (results .entry)) cells) ⌝ }
 {
-    let asked = plan::inner::picture_cells(width, height);
-    let wrong_length = plan::inner::lengths_differ(results.len(), asked, cells, asked);
-    let number = plan::inner::picture_refusal(across, down, bound, width, height, wrong_length);
+    let asked = refusals::inner::picture_cells(width, height);
+    let wrong_length = refusals::inner::lengths_differ(results.len(), asked, cells, asked);
+    let number = refusals::inner::picture_refusal(across, down, bound, width, height, wrong_length);
     if number != 0 {
         return Answer {
             number,

@@ -14,7 +14,7 @@ fn lengths_differ(cells: usize, samples: usize, results: usize, work: usize) -> 
     if samples != cells {
         return true;
     }
-    plan::inner::lengths_differ(results, cells, work, cells)
+    refusals::inner::lengths_differ(results, cells, work, cells)
 }
 
 // Where row 7 applies the cells are 0, and whether lengths differ from that does not matter.
@@ -31,14 +31,14 @@ pub(crate) fn refusal(
     ensures { λ r. ⌜ answerOf r ≡ R.firstOf (C.smoothRows (R.pictureOf (stagesOf across) (stagesOf down) width height) bound (now (samples .entry)) results work) ⌝ }
 {
     let n = samples.len();
-    let cells = plan::inner::picture_cells(width, height);
+    let cells = refusals::inner::picture_cells(width, height);
     let wrong_length = lengths_differ(cells, n, results, work);
-    let number = plan::inner::picture_refusal(across, down, bound, width, height, wrong_length);
+    let number = refusals::inner::picture_refusal(across, down, bound, width, height, wrong_length);
     if number != 0 {
         return Answer {
             number,
             position: 0,
         };
     }
-    plan::inner::sample_refusal(bound, samples, 0, n)
+    refusals::inner::sample_refusal(bound, samples, 0, n)
 }

@@ -2,12 +2,8 @@
 --   Structs    the code's structs as the definitions have them
 --   Capped     products that cannot wrap
 --   Tested     what the tests say of a plan
---   Sides      the cells of a picture
---   Span       what lies within reach of a place
 --   Contract   what a conversion promises, in or out
 pub mod Structs
 pub mod Capped
 pub mod Tested
-pub mod Sides
-pub mod Span
 pub mod Contract

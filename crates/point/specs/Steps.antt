@@ -20,7 +20,7 @@ use Rattle.theory.specs.Accepted.{length-accepted, accepted-divisor}
 use Rattle.theory.specs.AcceptedPoints.{point-allowed}
 use Rattle.plan.specs.declared.Point.the-variants.{Value, Refused}
 use Rattle.plan.specs.Structs.{pointOf-done, pointOf-refused}
-use Rattle.plan.specs.Span.{low, high}
+use Rattle.refusals.specs.Span.{low, high}
 use Rattle.theory.specs.Placed.{placedRows, placed-refused, placed-rest}
 use Rattle.point.specs.Contract.{Gives}
 use Rattle.result.specs.Shares.{Pointable}

@@ -17,8 +17,8 @@ pub(crate) fn refusal(
     ensures { λ r. ⌜ answerOf r ≡ R.firstOf (C.pointRows (stagesOf plan) bound position (now (samples .entry)) work) ⌝ }
 {
     let n = samples.len();
-    let wrong_length = work != plan::inner::edit_room(n);
-    let number = plan::inner::position_refusal(plan, bound, n, wrong_length, position);
+    let wrong_length = work != refusals::inner::edit_room(n);
+    let number = refusals::inner::position_refusal(plan, bound, n, wrong_length, position);
     if number != 0 {
         return Answer {
             number,
@@ -26,7 +26,7 @@ pub(crate) fn refusal(
         };
     }
     let reach = plan.reach() as usize;
-    let start = plan::inner::reach_start(position, reach);
-    let end = plan::inner::reach_end(n, position, reach);
-    plan::inner::sample_refusal(bound, samples, start, end)
+    let start = refusals::inner::reach_start(position, reach);
+    let end = refusals::inner::reach_end(n, position, reach);
+    refusals::inner::sample_refusal(bound, samples, start, end)
 }

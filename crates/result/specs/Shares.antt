@@ -24,7 +24,7 @@ use Rattle.meaning.specs.Bounds.{AllowedLength}
 use Rattle.theory.specs.HalfSample.{half-sample, half-sample-near}
 use Rattle.theory.specs.Accepted.{length-accepted, accepted-divisor, divisor-allowed}
 use Rattle.theory.specs.Shares.{share, share-outside, shares-result, shares-size, near-size}
-use Rattle.plan.specs.Span.{low, high}
+use Rattle.refusals.specs.Span.{low, high}
 use Rattle.taps.specs.Taps.{Held}
 use Rattle.taps.specs.Weigh.{weightIn, Weighable, weight-held, weighable}
 

@@ -43,8 +43,8 @@ fn with_taps(plan: Plan, samples: &[i32], n: usize, taps: &mut [i64], other: &mu
 {
     taps::inner::taps_into(plan, taps, other);
     let reach = taps.len() - 1;
-    let start = plan::inner::reach_start(n, reach);
-    let end = plan::inner::reach_end(samples.len(), n, reach);
+    let start = refusals::inner::reach_start(n, reach);
+    let end = refusals::inner::reach_end(samples.len(), n, reach);
     summed(taps, samples, n, start, end)
 }
 

@@ -25,7 +25,7 @@ fn takes(bound: u64, x: f64) -> bool
         return false;
     }
     let whole = std::num::truncating_f64_to_i64(x);
-    if bound < plan::inner::size(whole) {
+    if bound < refusals::inner::size(whole) {
         return false;
     }
     whole as f64 == x
@@ -58,7 +58,7 @@ pub(crate) fn refusal(bound: u64, doubles: &[f64], samples: usize) -> Answer
 {
     let n = doubles.len();
     let bad_size = plan::inner::outside(Plan::LEAST, Plan::MAX_LENGTH, n as u64);
-    let number = plan::inner::size_refusal(bound, 0, bad_size, samples != n);
+    let number = refusals::inner::size_refusal(bound, 0, bad_size, samples != n);
     if number != 0 {
         return Answer {
             number,

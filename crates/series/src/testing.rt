@@ -17,13 +17,13 @@ pub(crate) fn refusal(
     ensures { λ r. ⌜ answerOf r ≡ R.firstOf (C.smoothRows (R.seriesOf (stagesOf plan) (length (now (samples .entry)))) bound (now (samples .entry)) results work) ⌝ }
 {
     let n = samples.len();
-    let wrong_length = plan::inner::lengths_differ(results, n, work, n);
-    let number = plan::inner::series_refusal(plan, bound, n, wrong_length);
+    let wrong_length = refusals::inner::lengths_differ(results, n, work, n);
+    let number = refusals::inner::series_refusal(plan, bound, n, wrong_length);
     if number != 0 {
         return Answer {
             number,
             position: 0,
         };
     }
-    plan::inner::sample_refusal(bound, samples, 0, n)
+    refusals::inner::sample_refusal(bound, samples, 0, n)
 }

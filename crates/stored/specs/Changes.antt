@@ -24,7 +24,7 @@ use Rattle.theory.specs.Tests.{and-when}
 use Rattle.theory.specs.Places.{picked, rowAt-ext}
 use Rattle.theory.specs.Edits.{resultRow, gained-near, changed-is}
 use Rattle.theory.specs.Accepted.{inner-allowed, length-accepted}
-use Rattle.plan.specs.Span.{low, high}
+use Rattle.refusals.specs.Span.{low, high}
 use Rattle.taps.specs.Taps.{Held}
 use Rattle.taps.specs.Weigh.{weight-held, weighable}
 use Rattle.gains.specs.Gains.{gainIn, movedIn, gainedIn, refusedIn, Gainable, ChangesIn}

@@ -6,7 +6,7 @@ use Rattle.meaning.specs.Refusals.{differs, pictureOf}
 use Rattle.meaning.specs.Bounds.{AllowedSides}
 use Rattle.theory.specs.Accepted.{sides-tested}
 use Rattle.plan.specs.Structs.{stagesOf}
-use Rattle.plan.specs.Sides.{cells-asked}
+use Rattle.refusals.specs.Sides.{cells-asked}
 use Rattle.plan.specs.Tested.{allowed-tested}
 use Rattle.outputs.specs.Steps.{test-refused, test-rest, picture-limit}
 use Rattle.outputs.proofs.inner.picture.Statement.{statement}

@@ -5,7 +5,7 @@ use borrow.Author.Needs.{needs}
 use Rattle.meaning.specs.Refusals.{differs, pictureOf}
 use Rattle.plan.specs.Structs.{stagesOf}
 use Rattle.series.specs.Steps.{test-refused, test-rest}
-use Rattle.plan.specs.Sides.{cells-asked}
+use Rattle.refusals.specs.Sides.{cells-asked}
 use Rattle.picture.proofs.testing.refusal.Statement.{statement}
 use Rattle.picture.proofs.testing.refusal.Tie as tie
 

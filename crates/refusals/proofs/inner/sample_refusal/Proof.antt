@@ -14,8 +14,8 @@ use Rattle.algebra.specs.Size.{fits-wider}
 use Rattle.meaning.specs.Extension.{at}
 use Rattle.meaning.specs.Refusals.{above}
 use Rattle.theory.specs.Places.{Clear, picked, walk-start, walk-next, walk-found, walk-done}
-use Rattle.plan.proofs.inner.sample_refusal.Statement.{statement}
-use Rattle.plan.proofs.inner.sample_refusal.Tie as tie
+use Rattle.refusals.proofs.inner.sample_refusal.Statement.{statement}
+use Rattle.refusals.proofs.inner.sample_refusal.Tie as tie
 
 abbrev bad : ℕ → List ℤ → ℕ → Bool
 bad bound samples j = above bound (at samples j)

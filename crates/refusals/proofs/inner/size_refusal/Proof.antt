@@ -2,8 +2,8 @@
 use mathlib.Core.Path.{_∙_}
 use borrow.Author.Needs.{needs}
 use Rattle.meaning.specs.Refusals.{sizeRows}
-use Rattle.plan.proofs.inner.size_refusal.Statement.{statement}
-use Rattle.plan.proofs.inner.size_refusal.Tie as tie
+use Rattle.refusals.proofs.inner.size_refusal.Statement.{statement}
+use Rattle.refusals.proofs.inner.size_refusal.Tie as tie
 
 outside-requires : tie.Need-outside-requires
 outside-requires c κs = search needs

@@ -7,9 +7,9 @@ use borrow.Author.Tests.{le-leb, lt-leb}
 use lib.Dec.{leb}
 use Rattle.meaning.specs.Refusals.{_when_, seriesOf}
 use Rattle.theory.specs.Refusals.{refused-first, done-rest, first-on, off-done, common-numbered}
 use Rattle.plan.specs.Structs.{stagesOf}
-use Rattle.plan.proofs.inner.position_refusal.Statement.{statement}
-use Rattle.plan.proofs.inner.position_refusal.Tie as tie
+use Rattle.refusals.proofs.inner.position_refusal.Statement.{statement}
+use Rattle.refusals.proofs.inner.position_refusal.Tie as tie
 
 series-refusal-requires : tie.Need-series-refusal-requires
 series-refusal-requires c κs = search needs

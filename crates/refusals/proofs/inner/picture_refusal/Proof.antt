@@ -3,11 +3,11 @@ use mathlib.Core.Path.{_∙_, ap}
 use borrow.Author.Needs.{needs}
 use Rattle.meaning.specs.Refusals.{firstOf}
 use Rattle.theory.specs.Refusals.{refused-first, done-rest, plan-numbered}
 use Rattle.plan.specs.Tested.{plans-passed, plans-product}
 use Rattle.plan.specs.Capped.{sizeRows-capped}
-use Rattle.plan.specs.Sides.{cells-test}
-use Rattle.plan.proofs.inner.picture_refusal.Statement.{statement}
-use Rattle.plan.proofs.inner.picture_refusal.Tie as tie
+use Rattle.refusals.specs.Sides.{cells-test}
+use Rattle.refusals.proofs.inner.picture_refusal.Statement.{statement}
+use Rattle.refusals.proofs.inner.picture_refusal.Tie as tie
 
 plans-refusal-requires : tie.Need-plans-refusal-requires
 plans-refusal-requires c κs = search needs

@@ -1,7 +1,7 @@
 -- Two tests, one after the other.
 use borrow.Author.Tests.{eq-eqb, ne-eqb}
-use Rattle.plan.proofs.inner.lengths_differ.Statement.{statement}
-use Rattle.plan.proofs.inner.lengths_differ.Tie as tie
+use Rattle.refusals.proofs.inner.lengths_differ.Statement.{statement}
+use Rattle.refusals.proofs.inner.lengths_differ.Tie as tie
 
 returns : tie.Need-returns
 returns c = rw (ne-eqb _ _ (c .if1 .taken))

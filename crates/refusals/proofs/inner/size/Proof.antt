@@ -10,8 +10,8 @@ use lib.Signed.{ltZ, nonNeg}
 use mir.Syntax.{w64}
 use mir.Val.{SFits, Fits, toZ, ofZ}
 use mir.Facts.{toZ-ofZ}
-use Rattle.plan.proofs.inner.size.Statement.{statement}
-use Rattle.plan.proofs.inner.size.Tie as tie
+use Rattle.refusals.proofs.inner.size.Statement.{statement}
+use Rattle.refusals.proofs.inner.size.Tie as tie
 
 -- what the branch of a negative z asks of y, the number above it
 record Turned (z y : ℤ) : Type 0 where

@@ -2,8 +2,8 @@
 use native.Mathlib.Omega.{arith}
 use borrow.Author.Needs.{needs}
 use Rattle.theory.specs.Accepted.{plans-lower}
-use Rattle.plan.proofs.inner.plans_refusal.Statement.{statement}
-use Rattle.plan.proofs.inner.plans_refusal.Tie as tie
+use Rattle.refusals.proofs.inner.plans_refusal.Statement.{statement}
+use Rattle.refusals.proofs.inner.plans_refusal.Tie as tie
 
 plan-refusal-requires : tie.Need-plan-refusal-requires
 plan-refusal-requires c κs = search needs

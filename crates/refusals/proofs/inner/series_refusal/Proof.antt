@@ -3,10 +3,10 @@ use mathlib.Core.Path.{_∙_, ap}
 use borrow.Author.Needs.{needs}
 use Rattle.meaning.specs.Refusals.{firstOf}
 use Rattle.theory.specs.Refusals.{refused-first, done-rest, plan-numbered}
 use Rattle.plan.specs.Tested.{plan-passed}
 use Rattle.plan.specs.Capped.{sizeRows-capped}
-use Rattle.plan.proofs.inner.series_refusal.Statement.{statement}
-use Rattle.plan.proofs.inner.series_refusal.Tie as tie
+use Rattle.refusals.proofs.inner.series_refusal.Statement.{statement}
+use Rattle.refusals.proofs.inner.series_refusal.Tie as tie
 
 plan-refusal-requires : tie.Need-plan-refusal-requires
 plan-refusal-requires c κs = search needs

@@ -5,9 +5,9 @@ use native.Mathlib.Omega.{arith}
 use borrow.Author.Needs.{needs}
 use borrow.Author.Tests.{lt-ltb, le-ltb}
 use Rattle.meaning.specs.Limits.{maxLength}
-use Rattle.plan.specs.Sides.{pictureCells, sides-product}
-use Rattle.plan.proofs.inner.picture_cells.Statement.{statement}
-use Rattle.plan.proofs.inner.picture_cells.Tie as tie
+use Rattle.refusals.specs.Sides.{pictureCells, sides-product}
+use Rattle.refusals.proofs.inner.picture_cells.Statement.{statement}
+use Rattle.refusals.proofs.inner.picture_cells.Tie as tie
 
 outside-requires : tie.Need-outside-requires
 outside-requires c κs = search needs

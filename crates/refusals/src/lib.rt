@@ -1,0 +1,2 @@
+// The tests that calls share.
+pub mod inner;
