@@ -1,5 +1,3 @@
 -- The words of this crate's contracts.
---   Front      the driver's slices, and one read into the front of another
---   Checksum   what is printed of a long slice
-pub mod Front
-pub mod Checksum
+--   Rooms   the driver's slices
+pub mod Rooms

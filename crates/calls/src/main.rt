@@ -1,14 +1,12 @@
 // Runs test vectors through the public calls: a stream of words in, a line a call out.
 ghost use lib.ListN.{length};
-ghost use Rattle.calls.specs.Front.{Rooms};
-
-mod conversions;
-mod edits;
-mod input;
-mod output;
-mod plans;
-mod records;
-mod smoothing;
+ghost use Rattle.calls.specs.Rooms.{Rooms};
+use calls_jobs::inner::plans;
+use calls_jobs::inner::records;
+use calls_outputs::inner::conversions;
+use calls_smoothing::inner::edits;
+use calls_smoothing::inner::smoothing;
+use calls_stream::inner::input;
 
 // A longer slice ends the stream.
 const MOST_ELEMENTS: usize = 131072;

@@ -1,0 +1,2 @@
+// Doubles in, and the outputs.
+pub mod conversions;

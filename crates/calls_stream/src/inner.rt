@@ -1,0 +1,3 @@
+// Standard input and standard output.
+pub mod input;
+pub mod output;

@@ -1,0 +1,2 @@
+// The driver's stream: words in, lines out.
+pub mod inner;
