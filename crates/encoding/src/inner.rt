@@ -1,13 +1,12 @@
-// Numbers as bytes, high byte first, and as text. What is put into a slice stands from `at` on; the place behind it is answered.
+// Numbers as bytes, high byte first. What is put into a slice stands from `at` on; the place behind it is answered.
 ghost use mathlib.Core.Path.{_≡_};
 ghost use mathlib.Core.List.{[], _∷_};
 ghost use Prim.Native.Nat.{_+_, _^_, _≤_, _<_};
 ghost use lib.ListN.{length, take, drop};
-ghost use lib.IntN.{pos};
 ghost use lib.Signed.{mag};
 ghost use mir.Syntax.{w32};
 ghost use mir.Val.{toZ, ofZ};
-ghost use Rattle.meaning.specs.Encoding.{bytes, number, decimal};
+ghost use Rattle.meaning.specs.Encoding.{bytes, number};
 ghost use Rattle.encoding.specs.Append.{Appended, Room};
 
 // The number of n bytes from `at` on.
@@ -73,38 +72,4 @@ pub fn put_number(out: &mut [u8], at: usize, n: usize, x: u64) -> usize
     }
     let last = put_number(out, at, n - 1, x / 256);
     put_byte(out, last, (x % 256) as u8)
-}
-
-pub fn put_text(out: &mut [u8], at: usize, text: &[u8]) -> usize
-    requires { ⌜ Room at (now text) (now out) ⌝ }
-    ensures { λ r. ⌜ Appended (now (out .entry)) at (now (text .entry)) (now (out .exit)) r ⌝ }
-{
-    let mut end = at;
-    for i in 0..text.len() {
-        end = put_byte(out, end, text[i]);
-    }
-    end
-}
-
-pub fn put_decimal(out: &mut [u8], at: usize, x: u64) -> usize
-    requires { ⌜ Room at (decimal (pos x)) (now out) ⌝ }
-    ensures { λ r. ⌜ Appended (now (out .entry)) at (decimal (pos x)) (now (out .exit)) r ⌝ }
-{
-    if x < 10 {
-        return put_byte(out, at, 48 + x as u8);
-    }
-    let last = put_decimal(out, at, x / 10);
-    put_byte(out, last, 48 + (x % 10) as u8)
-}
-
-// With a sign where it is negative.
-pub fn put_whole(out: &mut [u8], at: usize, z: i64) -> usize
-    requires { ⌜ Room at (decimal z) (now out) ⌝ }
-    ensures { λ r. ⌜ Appended (now (out .entry)) at (decimal z) (now (out .exit)) r ⌝ }
-{
-    if z < 0 {
-        let digits = put_byte(out, at, 45);
-        return put_decimal(out, digits, magnitude(z) + 1);
-    }
-    put_decimal(out, at, magnitude(z))
 }

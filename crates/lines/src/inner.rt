@@ -4,7 +4,8 @@ ghost use lib.IntN.{pos};
 ghost use Rattle.meaning.specs.Encoding.{decimal};
 ghost use Rattle.meaning.specs.Program.{firstLine, resultLines};
 ghost use Rattle.encoding.specs.Append.{Appended, Room};
-use encoding::inner;
+use encoding::inner::put_byte;
+use text::inner;
 
 // Name and three numbers: number, divisor and sample count, or number, position and 0.
 pub fn first_line(out: &mut [u8], at: usize, number: u64, second: u64, third: u64) -> usize
@@ -35,7 +36,7 @@ fn result_line(out: &mut [u8], at: usize, index: usize, result: i64) -> usize
 {
     let word = put_word(out, at, index as u64, b' ');
     let end = inner::put_whole(out, word, result);
-    inner::put_byte(out, end, b'\n')
+    put_byte(out, end, b'\n')
 }
 
 // A number, and the byte that ends it.
@@ -44,5 +45,5 @@ fn put_word(out: &mut [u8], at: usize, x: u64, last: u8) -> usize
     ensures { λ r. ⌜ Appended (now (out .entry)) at (decimal (pos x) ++ last ∷ []) (now (out .exit)) r ⌝ }
 {
     let end = inner::put_decimal(out, at, x);
-    inner::put_byte(out, end, last)
+    put_byte(out, end, last)
 }

@@ -1,3 +1,3 @@
--- The words of this crate's contracts.
---   Text   the text of one job
+-- The words of this crate's proofs.
+--   Text   the text of one job, of what was read
 pub mod Text

@@ -2,7 +2,8 @@
 use native.Mathlib.Omega.{arith}
 use borrow.Author.Needs.{needs}
 use Rattle.theory.specs.Programs.{program-long, program-malformed}
-use Rattle.report.specs.Text.{first-room, few-samples, job-text}
+use Rattle.job.specs.Text.{first-room}
+use Rattle.report.specs.Text.{few-samples, job-text}
 use Rattle.report.proofs.inner.report.Statement.{statement}
 use Rattle.report.proofs.inner.report.Tie as tie
 

@@ -3,9 +3,9 @@ use native.Mathlib.Omega.{arith}
 use borrow.Author.Needs.{needs}
 use Rattle.plan.specs.Structs.{stagesOf}
 use Rattle.encoding.specs.Append.{append-then}
-use Rattle.report.specs.Text.{first-room, lines-room, refused-text, done-text}
-use Rattle.report.proofs.inner.smooth_into.Statement.{statement}
-use Rattle.report.proofs.inner.smooth_into.Tie as tie
+use Rattle.job.specs.Text.{first-room, lines-room, refused-text, done-text}
+use Rattle.job.proofs.inner.smooth_into.Statement.{statement}
+use Rattle.job.proofs.inner.smooth_into.Tie as tie
 
 load-requires : tie.Need-load-requires
 load-requires c κs = search needs

@@ -7,9 +7,9 @@ use native.Mathlib.Omega.{arith}
 use borrow.Author.Needs.{needs}
 use lib.ListN.{length, take, getD}
 use lib.Seq.{length-take-le, take-suc, take-all}
 use Rattle.encoding.specs.Append.{Appended, append-none, append-then}
-use Rattle.encoding.proofs.inner.put_text.Statement.{statement}
-use Rattle.encoding.proofs.inner.put_text.Tie as tie
+use Rattle.text.proofs.inner.put_text.Statement.{statement}
+use Rattle.text.proofs.inner.put_text.Tie as tie
 
 further : (text : List ℕ) (i : ℕ) → i < length text → take (i + 1) text ≡ take i text ++ getD text i 0 ∷ []
 further text i h = rw add-one (take-suc text i 0 h)

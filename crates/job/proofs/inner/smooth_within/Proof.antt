@@ -3,8 +3,8 @@ use mathlib.Core.Path.{sym}
 use native.Mathlib.Omega.{arith}
 use borrow.Author.Needs.{needs}
 use lib.Seq.{length-take-le}
-use Rattle.report.proofs.inner.smooth_within.Statement.{statement}
-use Rattle.report.proofs.inner.smooth_within.Tie as tie
+use Rattle.job.proofs.inner.smooth_within.Statement.{statement}
+use Rattle.job.proofs.inner.smooth_within.Tie as tie
 
 slice-relend-prefix-smooth-into : tie.Need-slice-relend-prefix-smooth-into
 slice-relend-prefix-smooth-into c = search needs

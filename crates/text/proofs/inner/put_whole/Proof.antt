@@ -11,10 +11,10 @@ use lib.Signed.{mag, ltZ}
 use mir.Facts.{toZ-ofZ}
 use Rattle.meaning.specs.Encoding.{decimal}
 use Rattle.theory.specs.Encoding.{decimal-negative}
 use Rattle.encoding.specs.Append.{append-then, room-first, room-rest}
 use borrow.Author.Needs.{needs}
-use Rattle.encoding.proofs.inner.put_whole.Statement.{statement}
-use Rattle.encoding.proofs.inner.put_whole.Tie as tie
+use Rattle.text.proofs.inner.put_whole.Statement.{statement}
+use Rattle.text.proofs.inner.put_whole.Tie as tie
 
 minus : (z : ℤ) {n : ℕ} → ltZ z (pos 0) ≡ true → n ≡ mag z → decimal z ≡ (45 ∷ []) ++ decimal (pos (n + 1))
 minus (pos m) t e = let no : ⊥ = omega (arith, ltb-true m 0 t) in absurd no

@@ -12,12 +12,12 @@ use mir.Val.{Fits}
 use Rattle.meaning.specs.Encoding.{decimal}
 use borrow.Fn.Kinds.{In}
 use borrow.Fn.PlainCycle.{Measures, is, falls, and}
-use Rattle.encoding.proofs.inner.put_decimal.Reads as put-decimal
-use Rattle.encoding.proofs.inner.put_decimal.Kinds as kinds
-use Rattle.encoding.proofs.inner.+put_decimal.Lts-put_decimal as lts
+use Rattle.text.proofs.inner.put_decimal.Reads as put-decimal
+use Rattle.text.proofs.inner.put_decimal.Kinds as kinds
+use Rattle.text.proofs.inner.+put_decimal.Lts-put_decimal as lts
 use Rattle.encoding.proofs.inner.put_byte.Reads as put-byte
-use Rattle.encoding.proofs.inner.+put_decimal.{statement}
-use Rattle.encoding.proofs.inner.+put_decimal.Tie.{close}
+use Rattle.text.proofs.inner.+put_decimal.{statement}
+use Rattle.text.proofs.inner.+put_decimal.Tie.{close}
 
 abbrev μ : Measures 1 kinds.ps ℕ
 μ κs a = a .1 .1 .0

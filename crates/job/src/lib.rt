@@ -1,0 +1,2 @@
+// A job that was read, smoothed.
+pub mod inner;
