@@ -3,10 +3,9 @@ ghost use lib.ListN.{length};
 ghost use Rattle.calls.specs.Rooms.{Rooms};
 use calls_jobs::inner::plans;
 use calls_jobs::inner::records;
-use calls_outputs::inner::conversions;
-use calls_smoothing::inner::edits;
-use calls_smoothing::inner::smoothing;
 use calls_stream::inner::input;
+
+mod edits;
 
 // A longer slice ends the stream.
 const MOST_ELEMENTS: usize = 131072;
@@ -63,14 +62,17 @@ fn one_call(
     let mut open = true;
     let number = input::word(&mut open);
     match number {
-        1 => smoothing::smooth_series(&mut open, samples, results, work),
-        2 => smoothing::smooth_picture(&mut open, samples, results, work),
+        1 | 2 | 4 => calls_smoothing::inner::one_call(&mut open, number, samples, results, work),
         3 => edits::edit_series(&mut open, samples, results, work),
-        4 => edits::point(&mut open, samples, work),
-        6..=12 => conversions::one_call(&mut open, number, samples, results, doubles, words),
-        13 => records::read_record(&mut open, bytes),
-        14 => records::write_record(&mut open, samples, bytes, work),
-        101 => records::stretch_and_sample(&mut open, bytes, work),
+        6..=12 => calls_outputs::inner::one_call(
+            &mut open,
+            number,
+            samples,
+            results,
+            doubles,
+            words,
+        ),
+        13 | 14 | 101 => records::one_call(&mut open, number, samples, bytes, work),
         _ => plans::one_call(&mut open, number),
     }
     open

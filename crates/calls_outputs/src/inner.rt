@@ -1,2 +1,174 @@
-// Doubles in, and the outputs.
-pub mod conversions;
+// Doubles in, and the outputs. Each call is read by one function, and made and printed by the next.
+ghost use Prim.Native.Nat.{_≤_};
+ghost use lib.ListN.{length};
+use calls_stream::inner::input;
+use calls_stream::inner::input::Raster;
+use calls_stream::inner::output;
+use plan::Plan;
+use summary::Summary;
+
+// Calls 6 to 12.
+pub fn one_call(
+    open: &mut bool,
+    number: u64,
+    samples: &mut [i32],
+    results: &mut [i64],
+    doubles: &mut [f64],
+    words: &mut [u64],
+)
+    requires { ⌜ length (now doubles) ≤ length (now words) ⌝ }
+{
+    match number {
+        6 => doubles_in(open, samples, doubles, words),
+        7 => whole_series(open, results, samples),
+        8 => doubles_series(open, results, doubles, words),
+        9 => summary_series(open, results),
+        10 => whole_picture(open, results, samples),
+        11 => doubles_picture(open, results, doubles, words),
+        _ => summary_picture(open, results),
+    }
+}
+
+// Call 6.
+fn doubles_in(open: &mut bool, samples: &mut [i32], doubles: &mut [f64], words: &mut [u64])
+    requires { ⌜ length (now doubles) ≤ length (now words) ⌝ }
+{
+    let bound = input::word(open);
+    let n = input::doubles(open, words, doubles);
+    let cells = input::samples(open, samples);
+    if *open {
+        taken(bound, &doubles[..n], &mut samples[..cells]);
+    }
+}
+
+fn taken(bound: u64, doubles: &[f64], samples: &mut [i32]) {
+    output::answer(samples::doubles_in(bound, doubles, samples));
+    output::samples(samples);
+    output::end_line();
+}
+
+// Call 7.
+fn whole_series(open: &mut bool, results: &mut [i64], cells: &mut [i32]) {
+    let plan = input::plan(open);
+    let bound = input::word(open);
+    let n = input::wholes(open, results);
+    let count = input::samples(open, cells);
+    if *open {
+        wholes_of_series(plan, bound, &results[..n], &mut cells[..count]);
+    }
+}
+
+fn wholes_of_series(plan: Plan, bound: u64, results: &[i64], cells: &mut [i32]) {
+    output::answer(whole::whole_series(plan, bound, results, cells));
+    output::samples(cells);
+    output::end_line();
+}
+
+// Call 8.
+fn doubles_series(open: &mut bool, results: &mut [i64], cells: &mut [f64], words: &mut [u64])
+    requires { ⌜ length (now cells) ≤ length (now words) ⌝ }
+{
+    let plan = input::plan(open);
+    let bound = input::word(open);
+    let n = input::wholes(open, results);
+    let count = input::doubles(open, words, cells);
+    if *open {
+        doubles_of_series(plan, bound, &results[..n], &mut cells[..count], words);
+    }
+}
+
+fn doubles_of_series(plan: Plan, bound: u64, results: &[i64], cells: &mut [f64], words: &mut [u64])
+    requires { ⌜ length (now cells) ≤ length (now words) ⌝ }
+{
+    output::answer(doubles::doubles_series(plan, bound, results, cells));
+    output::doubles(cells, words);
+    output::end_line();
+}
+
+// Call 9.
+fn summary_series(open: &mut bool, results: &mut [i64]) {
+    let plan = input::plan(open);
+    let bound = input::word(open);
+    let n = input::wholes(open, results);
+    if *open {
+        summarised(summary::summary_series(plan, bound, &results[..n]));
+    }
+}
+
+// Call 10.
+fn whole_picture(open: &mut bool, results: &mut [i64], cells: &mut [i32]) {
+    let picture = input::picture(open);
+    let n = input::wholes(open, results);
+    let count = input::samples(open, cells);
+    if *open {
+        wholes_of_picture(picture, &results[..n], &mut cells[..count]);
+    }
+}
+
+fn wholes_of_picture(picture: Raster, results: &[i64], cells: &mut [i32]) {
+    output::answer(whole::whole_picture(
+        picture.across,
+        picture.down,
+        picture.bound,
+        picture.width,
+        picture.height,
+        results,
+        cells,
+    ));
+    output::samples(cells);
+    output::end_line();
+}
+
+// Call 11.
+fn doubles_picture(open: &mut bool, results: &mut [i64], cells: &mut [f64], words: &mut [u64])
+    requires { ⌜ length (now cells) ≤ length (now words) ⌝ }
+{
+    let picture = input::picture(open);
+    let n = input::wholes(open, results);
+    let count = input::doubles(open, words, cells);
+    if *open {
+        doubles_of_picture(picture, &results[..n], &mut cells[..count], words);
+    }
+}
+
+fn doubles_of_picture(picture: Raster, results: &[i64], cells: &mut [f64], words: &mut [u64])
+    requires { ⌜ length (now cells) ≤ length (now words) ⌝ }
+{
+    output::answer(doubles::doubles_picture(
+        picture.across,
+        picture.down,
+        picture.bound,
+        picture.width,
+        picture.height,
+        results,
+        cells,
+    ));
+    output::doubles(cells, words);
+    output::end_line();
+}
+
+// Call 12.
+fn summary_picture(open: &mut bool, results: &mut [i64]) {
+    let picture = input::picture(open);
+    let n = input::wholes(open, results);
+    if *open {
+        summarised(summary::summary_picture(
+            picture.across,
+            picture.down,
+            picture.bound,
+            picture.width,
+            picture.height,
+            &results[..n],
+        ));
+    }
+}
+
+fn summarised(summary: Summary) {
+    output::first(summary.number);
+    output::number(summary.position as u64);
+    output::double(summary.lowest);
+    output::double(summary.highest);
+    output::number(summary.lowest_at as u64);
+    output::number(summary.highest_at as u64);
+    output::end_line();
+}

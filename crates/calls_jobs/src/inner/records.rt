@@ -4,8 +4,25 @@ ghost use lib.ListN.{length};
 use calls_stream::inner::input;
 use calls_stream::inner::output;
 
+// Calls 13, 14 and 101.
+pub fn one_call(
+    open: &mut bool,
+    number: u64,
+    samples: &mut [i32],
+    bytes: &mut [u8],
+    work: &mut [i64],
+)
+    requires { ⌜ length (now bytes) ≤ length (now work) ⌝ }
+{
+    match number {
+        13 => read_record(open, bytes),
+        14 => write_record(open, samples, bytes, work),
+        _ => stretch_and_sample(open, bytes, work),
+    }
+}
+
 // Call 13.
-pub fn read_record(open: &mut bool, bytes: &mut [u8]) {
+fn read_record(open: &mut bool, bytes: &mut [u8]) {
     let size = input::bytes(open, bytes);
     if *open {
         job_read(&bytes[..size]);
@@ -26,7 +43,7 @@ fn job_read(bytes: &[u8]) {
 }
 
 // Call 14. The work is only room to print in.
-pub fn write_record(open: &mut bool, samples: &mut [i32], bytes: &mut [u8], work: &mut [i64])
+fn write_record(open: &mut bool, samples: &mut [i32], bytes: &mut [u8], work: &mut [i64])
     requires { ⌜ length (now bytes) ≤ length (now work) ⌝ }
 {
     let radius = (input::word(open) % 65536) as u16;
@@ -68,7 +85,7 @@ fn record_written(
 }
 
 // Call 101: a stretch of bytes, and one of its samples.
-pub fn stretch_and_sample(open: &mut bool, bytes: &mut [u8], work: &mut [i64])
+fn stretch_and_sample(open: &mut bool, bytes: &mut [u8], work: &mut [i64])
     requires { ⌜ length (now bytes) ≤ length (now work) ⌝ }
 {
     let all = input::bytes(open, bytes);
