@@ -37,8 +37,8 @@ use Rattle.meaning.specs.Refusals.{firstOf, firstWhere, rowAt, some, planRows, 
 use Rattle.meaning.specs.Calls.{smoothRows, gained, editRows, countWhere, changed, Edited, editSeries, pointRows, point}
 use Rattle.meaning.specs.Values.{takes, doubleRows, doublesIn, outputRows, converted, Summary, summary}
 use Rattle.meaning.specs.Planner.{largest, radiusFor, plannerRows, Planned, planFor}
-use Rattle.meaning.specs.Encoding.{number}
-use Rattle.meaning.specs.Record.{Job, begins, reading, readRecord, recordSize}
+use Rattle.meaning.specs.Encoding.{bytes, number}
+use Rattle.meaning.specs.Record.{Job, field, sampleBytes, recordOf, begins, reading, readRecord, recordSize}
 use Rattle.plan.specs.declared.Plan.{Plan}
 use Rattle.plan.specs.declared.Point.{Point}
 use Rattle.plan.specs.Structs.{stageOf, stagesOf, editAnswer, pointAnswer, pointOf-done}
@@ -167,13 +167,7 @@ abbrev pub edged : Plan
 edged = record { radius = 0; inner = 3; edge = 1; passes = 1 }
 
 abbrev pub page : List ℕ
-page =
-    0x01 ∷ 0x00 ∷ 0x02 ∷ 0x00 ∷ 0x01
-    ∷ 0x02 ∷ 0x00 ∷ 0x01 ∷ 0x02
-    ∷ 0x03 ∷ 0x00 ∷ 0x01 ∷ 0x01
-    ∷ 0x04 ∷ 0x00 ∷ 0x01 ∷ 0x01
-    ∷ 0x05 ∷ 0x00 ∷ 0x04 ∷ 0x00 ∷ 0x00 ∷ 0x00 ∷ 0x08
-    ∷ 0x06 ∷ 0x00 ∷ 0x0C ∷ 0x00 ∷ 0x00 ∷ 0x00 ∷ 0x08 ∷ 0x00 ∷ 0x00 ∷ 0x00 ∷ 0x00 ∷ 0x00 ∷ 0x00 ∷ 0x00 ∷ 0x00 ∷ []
+page = recordOf 1 2 1 1 8 (pos 8 ∷ pos 0 ∷ pos 0 ∷ [])
 
 abbrev pub Small : Shape → Type 0
 Small s = (s ≡ seriesOf (stagesOf edged) 3) ⊎ (s ≡ pictureOf (stagesOf edged) (stagesOf edged) 3 1)
@@ -224,7 +218,7 @@ unfolding planFor
 planner-not-refused c s k b = ap (λ (x : Planned). x .answer .number) (c .learnt) ∙ planner-number s k b
 
 page-number : readRecord page .answer .number ≡ 0
-unfolding readRecord begins reading number
+unfolding recordOf field bytes sampleBytes readRecord begins reading number
 page-number = refl
 
 pub read-not-refused : (c : ReadCall) → records.bytes c ≡ page → records.job c .number ≡ 0
