@@ -1,2 +1,2 @@
-// Numbers as bytes and as text, for the layers that read and write them. Nothing here is a public call.
+// Numbers as bytes, for the layers that read and write them. Nothing here is a public call.
 pub mod inner;

@@ -1,4 +1,4 @@
--- The words of this crate's contracts, and the laws of its loops.
+-- The words of this crate's contracts, and the laws of its steps.
 --   Contract   what the call promises
 --   Steps      the steps of the call
 pub mod Contract

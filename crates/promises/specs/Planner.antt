@@ -1,7 +1,7 @@
 -- The planner: `planner::plan_for` by its own contract, for all inputs.
 --   PlannerCall        any call, as its contract lets it end
 --   sigma, passes, inner   what it was given, sigma in hundredths
---   number, radius, edge   what it answered; the position is always 0
+--   number, radius, edge   what it answered; it has no position
 --   rows, Allowed      its rows of the table of numbers, and the bounds of document 01
 --   Q c                10,000 times the passes
 --   found c            the plan of the radius and edge weight answered

@@ -30,9 +30,9 @@
 --   Encoding     numbers as bytes and as text
 --   Records      the job record: what is written is read, what is read as done was written
 --   Accepted     a call is done exactly where the bounds hold
---   Placed       rows 1 to 9 of a call with a place, and what follows them
 --   AcceptedSmoothings   a smoothing, of a series or a picture, is done exactly where its bounds hold
 --   AcceptedOutputs   so is an output, of a series or a picture
+--   Placed       rows 1 to 9 of a call with a place, and what follows them
 --   AcceptedEdits, AcceptedPoints   so are an edit and a point
 --   AcceptedDoubles      and doubles in
 --   Stored       what an edit leaves of a stored smoothing
