@@ -1,4 +1,4 @@
-// Holds docs/PROMISES.md and docs/EXCEPTIONS.md to the tree. Every backticked name has to be there, and be what its
+// Holds docs/PROMISES.md, docs/LAWS.md and docs/EXCEPTIONS.md to the tree. Every backticked name has to be there, and be what its
 // column says: a definition, a theorem, a must-fail edit. Every must-fail edit and every theorem of `promises` has to
 // be named, and every public call with a theorem that it has one outcome and with two edits. What a theorem says is
 // not read: that is for a person.
@@ -8,7 +8,7 @@ import { fileURLToPath } from 'node:url';
 
 const ROOT = join(dirname(fileURLToPath(import.meta.url)), '..');
 const MAP = 'docs/PROMISES.md';
-const DOCUMENTS = [MAP, 'docs/EXCEPTIONS.md'];
+const DOCUMENTS = [MAP, 'docs/LAWS.md', 'docs/EXCEPTIONS.md'];
 const LEAST_EDITS = 2;
 
 const exists = (path) => existsSync(join(ROOT, path));

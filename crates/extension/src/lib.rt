@@ -1,2 +1,2 @@
-// Reading a series beyond its ends.
+// Reading a series beyond its ends. Nothing here is a public call.
 pub mod inner;

@@ -1,2 +1,2 @@
-// A job that was read, smoothed.
+// A job that was read, smoothed. Nothing here is a public call.
 pub mod inner;

@@ -1,2 +1,2 @@
-// A pass over a series.
+// A pass over a series. Nothing here is a public call.
 pub mod inner;

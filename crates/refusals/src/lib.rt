@@ -1,2 +1,2 @@
-// The tests that calls share.
+// The tests that calls share. Nothing here is a public call.
 pub mod inner;

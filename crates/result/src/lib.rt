@@ -1,2 +1,2 @@
-// The result at one place.
+// The result at one place. Nothing here is a public call.
 pub mod inner;

@@ -1,2 +1,2 @@
-// The rows of a picture.
+// The rows of a picture. Nothing here is a public call.
 pub mod inner;

@@ -1,2 +1,2 @@
-// The stored results of an edit.
+// The stored results of an edit. Nothing here is a public call.
 pub mod inner;

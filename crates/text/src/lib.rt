@@ -1,2 +1,2 @@
-// Numbers as text.
+// Numbers as text. Nothing here is a public call.
 pub mod inner;
