@@ -196,7 +196,7 @@ for (const { name, path } of PROMISED) {
 }
 
 // The public calls: functions at the root of a library, and those of its types. Its one open module is ours.
-const roots = CODE.filter(({ open, path }) => open && path.endsWith('/src/lib.rt'));
+const roots = CODE.filter(({ open, path }) => open && path.endsWith('src/lib.rt'));
 const calls = roots.filter(({ kind }) => kind === 'fn');
 const rows = map.rows.filter((row) => 'call' in row && 'one outcome' in row);
 const nameOf = ({ within, name, path }) => `${within ?? crateOf(path)}::${name}`;

@@ -1,5 +1,4 @@
 // The job record's writer.
-ghost use mathlib.Core.Path.{_≡_};
 ghost use Rattle.meaning.specs.Record as M;
 ghost use Rattle.plan.specs.Structs.{answerOf};
 ghost use Rattle.writer.specs.Contract.{Writes};
