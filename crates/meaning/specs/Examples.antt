@@ -18,6 +18,7 @@ use Rattle.meaning.specs.Smoothing.{listOf, convolved, result, results, 
 use Rattle.meaning.specs.Picture.{pixel, grid, picture}
 use Rattle.meaning.specs.Refusals.{Answer, firstOf, firstWhere, rowAt, some, planRows, sizeRows, commonRows, seriesOf, ifDone, zeros, ownRows, planDivisor, planReach}
 use Rattle.meaning.specs.Values.{nearest, ratio, takes, doubleRows, doublesIn, outputRows, converted, unbeaten, summary, wholeSeries, wholePicture, summarySeries}
+use Rattle.meaning.specs.Carry.{carry, carryCell, carried, carrySeries, carryPicture}
 use Rattle.meaning.specs.Calls.{smoothRows, smoothed, smoothSeries, smoothPicture, gained, editRows, countWhere, changed, editSeries}
 use Rattle.meaning.specs.Planner.{largest, radiusFor, edgeFor, plannerRows, planFor}
 use Rattle.meaning.specs.Encoding.{bytes, number, text, digits, decimal}
@@ -35,6 +36,10 @@ data Example : Type 0 where
   planner : ℕ → ℕ → ℕ → ℕ → ℕ → Example
   -- plan, samples; whole output
   whole : List Stage → List ℤ → List ℤ → Example
+  -- plan, results; last carry, cells
+  carries : List Stage → List ℤ → ℕ → List ℤ → Example
+  -- plans across and down, width, height, samples; last carry, cells
+  carriesRaster : List Stage → List Stage → ℕ → ℕ → List ℤ → ℕ → List ℤ → Example
   -- bound, doubles, samples; number, position, samples afterwards
   taken : ℕ → List Float → List ℤ → ℕ → ℕ → List ℤ → Example
   -- plan, results; lowest and its index, highest and its index
@@ -62,6 +67,8 @@ Holds (raster hs vs W H f r) = smoothPicture fold fold hs vs 9 W H f f f ≡ rec
 Holds (edit ss f p v r n) = editSeries fold ss 9 p v f (results fold ss f) (f ++ f) ≡ record { answer = done; count = n; samples = set f p v; results = r; work = zeros (f ++ f) }
 Holds (planner s K b r a) = planFor s K b ≡ record { answer = done; radius = r; edge = a }
 Holds (whole ss f c) = wholeSeries ss 9 (results fold ss f) f ≡ record { answer = done; cells = c }
+Holds (carries ss r k c) = carrySeries ss 9 r r ≡ record { answer = done; carry = k; cells = c }
+Holds (carriesRaster hs vs W H f k c) = carryPicture hs vs 9 W H (picture fold fold hs vs W H f) f ≡ record { answer = done; carry = k; cells = c }
 Holds (taken M xs f n p g) = doublesIn M xs f ≡ record { answer = record { number = n; position = p }; cells = g }
 Holds (summed ss r l i h j) = summarySeries ss 9 r ≡ record { answer = done; lowest = l; highest = h; lowestAt = i; highestAt = j }
 Holds (refused hs vs W H r n p) = wholePicture hs vs 1 W H r r ≡ record { answer = record { number = n; position = p }; cells = r }
@@ -121,6 +128,10 @@ examples =
     ∷ summed (plan 1 2 1 1) (pos 4 ∷ negsuc 3 ∷ pos 4 ∷ negsuc 3 ∷ []) (fin true 1 (negsuc 0)) 1 (fin false 1 (negsuc 0)) 0
     ∷ refused (plan 1 1 0 1) (plan 1 2 1 1) 3 1 (pos 24 ∷ negsuc 24 ∷ pos 25 ∷ []) 12 1
     ∷ refused (plan 1 1 0 1) (plan 1 2 1 1) 1 1 (pos 24 ∷ pos 24 ∷ []) 8 0
+    ∷ carries (plan 1 2 1 1) (results fold (plan 1 2 1 1) (plus (4 ∷ 0 ∷ 0 ∷ []))) 0 (plus (2 ∷ 1 ∷ 1 ∷ []))
+    ∷ carries (plan 1 2 1 1) (results fold (plan 1 2 1 1) (minus (4 ∷ 0 ∷ 0 ∷ []))) 0 (minus (2 ∷ 2 ∷ 0 ∷ []))
+    ∷ carries (plan 1 2 1 1) (pos 7 ∷ negsuc 0 ∷ pos 5 ∷ []) 3 (plus (0 ∷ 0 ∷ 1 ∷ []))
+    ∷ carriesRaster (plan 0 3 1 1) (plan 0 3 1 1) 2 2 (plus (1 ∷ 0 ∷ 0 ∷ 0 ∷ [])) 0 (plus (0 ∷ 0 ∷ 0 ∷ 1 ∷ []))
     ∷ unplanned 25601 3 256 3
     ∷ unplanned 25601 3 16 13
     ∷ []
@@ -132,9 +143,9 @@ data Every : List Example → Type 0 where
 
 examples-hold : Every examples
 unfolding examples sumWithin emod reflect fold ext tap passAt kernel width reach tapSum divisor listOf convolved result results weight near pixel grid picture
-    firstOf firstWhere rowAt some planRows sizeRows ifDone ownRows planDivisor planReach nearest ratio takes doubleRows doublesIn unbeaten summary ofInt div toSigned round size units odd span climb trailingZeros outputRows converted smoothRows smoothed gained editRows countWhere changed editSeries
+    firstOf firstWhere rowAt some planRows sizeRows ifDone ownRows planDivisor planReach nearest ratio takes doubleRows doublesIn unbeaten summary ofInt div toSigned round size units odd span climb trailingZeros outputRows converted carry carryCell carried smoothRows smoothed gained editRows countWhere changed editSeries
     largest radiusFor edgeFor plannerRows planFor bytes number text digits decimal sampleAt stretch samplesOf begins reading readRecord firstLine resultLines report program
 examples-hold =
     refl and refl and refl and refl and refl and refl and refl
     and refl and refl and refl and refl and refl
-    and refl and refl and refl and refl and refl and refl and refl and refl and refl and refl and refl and refl and refl and refl and refl and refl and refl and refl and refl and refl and refl and refl and refl and none
+    and refl and refl and refl and refl and refl and refl and refl and refl and refl and refl and refl and refl and refl and refl and refl and refl and refl and refl and refl and refl and refl and refl and refl and refl and refl and refl and refl and none

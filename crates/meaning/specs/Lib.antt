@@ -6,6 +6,7 @@
 --   Picture     results of a picture
 --   Refusals    the table of numbers, and the lowest that applies
 --   Values      doubles in; whole numbers, doubles and summary out
+--   Carry       whole numbers out that add up
 --   Calls       smoothing a series and a picture, an edit, a point: what each answers and leaves
 --   Bounds      the table of bounds as inequalities, beside the rows
 --   Planner     from standard deviation to radius and edge weight
@@ -25,6 +26,7 @@ pub mod Smoothing
 pub mod Picture
 pub mod Refusals
 pub mod Values
+pub mod Carry
 pub mod Calls
 pub mod Bounds
 pub mod Planner
