@@ -1,61 +1,22 @@
 -- The half-sample symmetric fold, document 01's extension, is a Folding and has Nearness.
 --   half-sample        the Folding
 --   half-sample-near   the Nearness
--- Laws: emod-below, emod-shift (z and its remainder go on alike); reflect-low, reflect-high, reflect-min (both, for omega);
+-- Laws: reflect-low, reflect-high, reflect-min (both, for omega);
 -- fold-at (a place by its period), fold-period, fold-mirror (-1 - z reads as z does), fold-negsuc (the same of pos n), ext-negsuc (of a series).
 use mathlib.Core.Path.{_≡_, refl, sym, _∙_, ap}
 use mathlib.Core.List.{List, [], _∷_}
-use Prim.Native.Nat.{ℕ, suc, _+_, _*_, _-_, _/_, _≤_, _<_, min}
+use Prim.Native.Nat.{ℕ, suc, _+_, _*_, _-_, _≤_, _<_, min}
 use native.Mathlib.Decide.{decLt}
 use native.Mathlib.Omega.{arith}
 use lib.ListN.{length}
-use lib.IntN.{ℤ, pos, negsuc, natAbs, _+ℤ_, _-ℤ_, _*ℤ_}
+use lib.IntN.{ℤ, pos, negsuc, natAbs, _+ℤ_, _-ℤ_}
 use borrow.Author.Tests.{lt-ltb, le-ltb}
 use Rattle.algebra.specs.Difference.{rep, diff, linear}
-use Rattle.algebra.specs.Ring.{ac}
-use Rattle.algebra.specs.Division.{Divided, divided-pos, divided-negsuc, divided-shift, divided-unique}
 use Rattle.algebra.specs.Size.{natAbs-sub}
 use Rattle.meaning.specs.Extension.{at, emod, reflect, fold, ext}
 use Rattle.meaning.specs.Smoothing.{apart}
+use Rattle.theory.specs.Remainder.{emod-is, emod-below, emod-small, emod-period, emod-shift, emod-mirror}
 use Rattle.theory.specs.Folding.{Follows, forward, backward, Folding, Nearness}
-
--- ---- the remainder
-emod-divided : (z : ℤ) {p : ℕ} → 0 < p → (q : ℤ) × Divided z p q (emod z p)
-unfolding emod
-emod-divided (pos n) {p} h = (pos (n / p), divided-pos n p h)
-emod-divided (negsuc n) {p} h = (negsuc (n / p), divided-negsuc n p h)
-
-emod-is : {z : ℤ} {p : ℕ} {q : ℤ} {r : ℕ} → Divided z p q r → emod z p ≡ r
-emod-is {z} d = divided-unique (emod-divided z (omega (arith, d .below)) .1) d .1
-
--- whole periods apart
-emod-same : (z k : ℤ) {x : ℤ} {p : ℕ} → 0 < p → x ≡ z +ℤ pos p *ℤ k → emod x p ≡ emod z p
-emod-same z k {p} h e = ap (λ y. emod y p) e ∙ emod-is (divided-shift (emod-divided z h .1) k)
-
-pub emod-below : (z : ℤ) {p : ℕ} → 0 < p → emod z p < p
-emod-below z h = emod-divided z h .1 .below
-
-emod-small : {n p : ℕ} → n < p → emod (pos n) p ≡ n
-emod-small h = emod-is {q = pos 0} (record { below = h; is = simp diff (omega linear) })
-
-emod-period : (z : ℤ) {p : ℕ} → 0 < p → emod (z +ℤ pos p) p ≡ emod z p
-emod-period z h = emod-same z (pos 1) h (rw (rep z) (simp diff (omega linear)))
-
-pub emod-shift : (z d : ℤ) {p : ℕ} → 0 < p → emod (z +ℤ d) p ≡ emod (pos (emod z p) +ℤ d) p
-emod-shift z d {p} h =
-    let (q, e) = emod-divided z h in
-    emod-same (pos (emod z p) +ℤ d) q h (ap (λ y. y +ℤ d) (e .is) ∙ regroup (pos p *ℤ q) (pos (emod z p)) d)
-  where
-    regroup : (a b c : ℤ) → a +ℤ b +ℤ c ≡ b +ℤ c +ℤ a
-    regroup a b c = simp ac
-
-emod-mirror : (z : ℤ) {p : ℕ} → 0 < p → emod (negsuc 0 -ℤ z) p ≡ p - suc (emod z p)
-emod-mirror z {p} h =
-    let (q, e) = emod-divided z h in
-    emod-is {q = negsuc 0 -ℤ q} (record { below = omega arith; is = ap (λ y. negsuc 0 -ℤ y) (e .is) ∙ mirrored p (emod z p) q (e .below) })
-  where
-    mirrored : (p r : ℕ) (q : ℤ) → r < p → negsuc 0 -ℤ (pos p *ℤ q +ℤ pos r) ≡ pos p *ℤ (negsuc 0 -ℤ q) +ℤ pos (p - suc r)
-    mirrored p r q l = rw (rep q) (simp diff (omega linear))
 
 -- ---- reflection
 pub reflect-low : {N m : ℕ} → m < N → reflect N m ≡ m

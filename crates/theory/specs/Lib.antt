@@ -1,5 +1,6 @@
 -- Laws of the definitions in `meaning`, in the order they build on each other. Each file's head names its laws; their statements need no definition opened.
 --   Folding      what an index map must be for the laws
+--   Remainder    the remainder that is never negative
 --   HalfSample   the map of document 01 is one
 --   Lists        lists by their elements, and how large those are
 --   Fill         a list written by a loop
@@ -24,6 +25,7 @@
 --   Counts       at how many places a test is true, and how many results changed
 --   Edits        what an edit makes of results, and how many change
 --   Nearest      a quotient to the nearest whole number
+--   Carry        remainders carried on
 --   Extremes     the first of the lowest, and of the highest
 --   Values       a result over the divisor
 --   Doubles      doubles that are whole, and what they are cut to
@@ -41,6 +43,7 @@
 --   Planner      the planner's rule
 -- A law over an index map φ takes `F : Folding φ`, and where it speaks of reach `C : Nearness φ`: for document 01, half-sample and half-sample-near.
 pub mod Folding
+pub mod Remainder
 pub mod HalfSample
 pub mod Lists
 pub mod Fill
@@ -65,6 +68,7 @@ pub mod ShapeRows
 pub mod Counts
 pub mod Edits
 pub mod Nearest
+pub mod Carry
 pub mod Extremes
 pub mod Values
 pub mod Doubles
