@@ -4,9 +4,9 @@ use lib.IntN.{ℤ, pos, negsuc, _-ℤ_}
 use mir.Syntax.{w64}
 use mir.Val.{SFits}
 use mir.Facts.{toZ-ofZ}
-use Rattle.whole.specs.Rounding.{turn-pos, turn-negsuc}
-use Rattle.whole.proofs.converting.turned.Statement.{statement}
-use Rattle.whole.proofs.converting.turned.Tie as tie
+use Rattle.quotient.specs.Turning.{turn-pos, turn-negsuc}
+use Rattle.quotient.proofs.inner.turned.Statement.{statement}
+use Rattle.quotient.proofs.inner.turned.Tie as tie
 
 turned-fits : (z : ℤ) → SFits w64 z → SFits w64 (negsuc 0 -ℤ z)
 turned-fits (pos a) f = rw (turn-pos a) (record { sfits = f .sfits })
