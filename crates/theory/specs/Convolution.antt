@@ -2,7 +2,7 @@
 -- Laws: passAt-ext, passAt-swap, tap-sum (the taps of a pass); convolved-ext, convolved-none, convolved-cons (a stage in front is one pass more),
 -- passAt-one (one stage is one pass), convolved-append; convolved-const, convolved-+, convolved-*, convolved-sum, convolved-swap;
 -- convolved-forward, convolved-backward (a row that goes on alike around n and p), convolved-nonneg;
--- kernel-append (of stages one after the other: the two kernels' convolution), kernel-sum.
+-- kernel-append (of stages one after the other: the two kernels' convolution), kernel-sum, kernel-pairs (what pairs of opposite offsets weigh).
 use mathlib.Core.Path.{_≡_, sym, _∙_, ap, ap₂}
 use mathlib.Core.List.{List, [], _∷_, _++_}
 use Prim.Native.Nat.{ℕ, suc, _≤_}
@@ -11,7 +11,7 @@ use lib.IntN.{ℤ, pos, negℤ, natAbs, _+ℤ_, _-ℤ_, _*ℤ_, *ℤ-comm, +ℤ-
 use lib.Signed.{_≤ℤ_}
 use Rattle.algebra.specs.Difference.{rep, diff, linear}
 use Rattle.algebra.specs.Ring.{ac, *ℤ-idl, *ℤ-idr, *ℤ-assoc, *ℤ-left-comm, *ℤ-+ℤ}
-use Rattle.algebra.specs.Order.{nonneg-*}
+use Rattle.algebra.specs.Order.{zarith, of+, nonneg-*}
 use Rattle.algebra.specs.Sum.{sum, sum-*}
 use Rattle.algebra.specs.Within.{sumWithin, beyond-*, within-ext, within-const, within-+, within-*, within-swap, within-exchange, within-sum, within-neg, within-shift, within-nonneg}
 use Rattle.meaning.specs.Kernel.{Stage, tap, kernel, width, tapSum, divisor, passAt}
@@ -90,6 +90,18 @@ convolved-const (s ∷ ss) c n =
 
 pub kernel-sum : (ss : List Stage) → sumWithin (width ss) (kernel ss) ≡ pos (divisor ss)
 kernel-sum ss = within-ext _ (λ m l. sym (*ℤ-idr (kernel ss m))) ∙ unfold convolved in convolved-const ss (pos 1) (pos 0) ∙ *ℤ-idr (pos (divisor ss))
+
+-- numbers that with their opposites are twice c weigh as c does
+pub kernel-pairs : (ss : List Stage) (u : ℤ → ℤ) (c : ℤ) → ((m : ℤ) → u m +ℤ u (negℤ m) ≡ c +ℤ c) → sumWithin (width ss) (λ m. kernel ss m *ℤ u m) ≡ pos (divisor ss) *ℤ c
+kernel-pairs ss u c h = half _ _ (
+    ap (λ z. sumWithin (width ss) (λ m. kernel ss m *ℤ u m) +ℤ z) (sym (within-neg (width ss) (λ m. kernel ss m *ℤ u m)))
+    ∙ sym (within-+ (width ss) _ _)
+    ∙ within-ext _ (λ m l. ap (λ z. kernel ss m *ℤ u m +ℤ z *ℤ u (negℤ m)) (kernel-symmetric ss m) ∙ sym (*ℤ-+ℤ (kernel ss m) (u m) (u (negℤ m))) ∙ ap (λ z. kernel ss m *ℤ z) (h m))
+    ∙ unfold convolved in convolved-const ss (c +ℤ c) (pos 0)
+    ∙ *ℤ-+ℤ (pos (divisor ss)) c c)
+  where
+    half : (x y : ℤ) → x +ℤ x ≡ y +ℤ y → x ≡ y
+    half x y e = omega (zarith, of+ x x, of+ y y)
 
 pub convolved-+ : (ss : List Stage) (e g : ℤ → ℤ) (n : ℤ) → convolved ss (λ x. e x +ℤ g x) n ≡ convolved ss e n +ℤ convolved ss g n
 unfolding convolved

@@ -1,9 +1,10 @@
--- The half-sample symmetric fold, document 01's extension, is a Folding and has Nearness.
---   half-sample        the Folding
---   half-sample-near   the Nearness
+-- The half-sample symmetric fold, document 01's extension, is a Folding, has Nearness and is Balanced.
+--   half-sample            the Folding
+--   half-sample-near       the Nearness
+--   half-sample-balanced   the balance
 -- Laws: reflect-low, reflect-high, reflect-min (both, for omega);
 -- fold-at (a place by its period), fold-period, fold-mirror (-1 - z reads as z does), fold-negsuc (the same of pos n), ext-negsuc (of a series).
-use mathlib.Core.Path.{_≡_, refl, sym, _∙_, ap}
+use mathlib.Core.Path.{_≡_, refl, sym, _∙_, ap, ap₂}
 use mathlib.Core.List.{List, [], _∷_}
 use Prim.Native.Nat.{ℕ, suc, _+_, _*_, _-_, _≤_, _<_, min}
 use native.Mathlib.Decide.{decLt}
@@ -11,12 +12,12 @@ use native.Mathlib.Omega.{arith}
 use lib.ListN.{length}
 use lib.IntN.{ℤ, pos, negsuc, natAbs, _+ℤ_, _-ℤ_}
 use borrow.Author.Tests.{lt-ltb, le-ltb}
-use Rattle.algebra.specs.Difference.{rep, diff, linear}
+use Rattle.algebra.specs.Difference.{⊖-is, rep, diff, linear}
 use Rattle.algebra.specs.Size.{natAbs-sub}
 use Rattle.meaning.specs.Extension.{at, emod, reflect, fold, ext}
 use Rattle.meaning.specs.Smoothing.{apart}
 use Rattle.theory.specs.Remainder.{emod-is, emod-below, emod-small, emod-period, emod-shift, emod-mirror}
-use Rattle.theory.specs.Folding.{Follows, forward, backward, Folding, Nearness}
+use Rattle.theory.specs.Folding.{Follows, forward, backward, Folding, Nearness, Balanced}
 
 -- ---- reflection
 pub reflect-low : {N m : ℕ} → m < N → reflect N m ≡ m
@@ -101,3 +102,10 @@ half-sample-near = record { nearest = nearest }
     nearest : {N n : ℕ} → n < N → (x : ℤ) → apart n (fold N x) ≤ natAbs (pos n -ℤ x)
     nearest {n} h (pos a) = rw (natAbs-sub n a) (fold-near h a .1)
     nearest {N} {n} h (negsuc a) = rw (fold-negsuc N (omega arith) a) (omega (arith, fold-near h a))
+
+-- ---- balance
+pub half-sample-balanced : Balanced fold
+half-sample-balanced = record { ends = λ {N} h m g. ap₂ (λ a b. g a +ℤ g b) (fold-negsuc N h m) (behind N h m) }
+  where
+    behind : (N : ℕ) → 0 < N → (m : ℕ) → fold N (pos (N + m)) ≡ fold N (pos N -ℤ pos (suc m))
+    behind N h m = fold-back N h N (pos m) (omega arith) ∙ ap (fold N) (rw (⊖-is N (suc m)) (simp diff (omega linear)))

@@ -19,6 +19,7 @@
 --   Shares       what the samples within reach hold of a result
 --   Images       a weight as strided sums of taps
 --   Picture      rows first or columns first
+--   Totals       the sum of the results is the divisor times that of the samples
 --   Refusals     which row answers, and what an answer of 0 says
 --   Places       the first place where a test is true
 --   ShapeRows    rows 1 to 8 of any shape, and one row more
@@ -41,7 +42,8 @@
 --   Farthest     how far an accepted plan reaches at most
 --   Programs     what the program prints
 --   Planner      the planner's rule
--- A law over an index map φ takes `F : Folding φ`, and where it speaks of reach `C : Nearness φ`: for document 01, half-sample and half-sample-near.
+-- A law over an index map φ takes `F : Folding φ`, where it speaks of reach `C : Nearness φ`, and of totals `B : Balanced φ`:
+-- for document 01, half-sample, half-sample-near and half-sample-balanced.
 pub mod Folding
 pub mod Remainder
 pub mod HalfSample
@@ -62,6 +64,7 @@ pub mod Local
 pub mod Shares
 pub mod Images
 pub mod Picture
+pub mod Totals
 pub mod Refusals
 pub mod Places
 pub mod ShapeRows

@@ -9,26 +9,19 @@ use native.Mathlib.Nat.{mul-one}
 use native.Mathlib.Numerals.{add-one}
 use native.Mathlib.Omega.{arith}
 use lib.ListN.{replicate}
-use lib.IntN.{ℤ, pos, negℤ, _+ℤ_, _-ℤ_, _*ℤ_, *ℤ-comm, *ℤ-zero, zero-*ℤ, +ℤ-idl, +ℤ-idr, +ℤ-invr}
-use Rattle.algebra.specs.Ring.{ac, *ℤ-zero-r, *ℤ-+ℤ, *ℤ-negℤ}
-use Rattle.algebra.specs.Order.{zarith, of+}
+use lib.IntN.{ℤ, pos, _+ℤ_, _-ℤ_, _*ℤ_, *ℤ-comm, *ℤ-zero, zero-*ℤ, +ℤ-idl, +ℤ-idr, +ℤ-invr}
+use Rattle.algebra.specs.Ring.{ac, *ℤ-zero-r, *ℤ-+ℤ}
 use Rattle.algebra.specs.Expression.{_⊕_, _⊝_, _⊗_, con}
 use Rattle.algebra.specs.Solver.{ring, _≗_}
-use Rattle.algebra.specs.Within.{sumWithin, within-ext, within-none, within-+, within-*, within-neg}
+use Rattle.algebra.specs.Within.{sumWithin, within-ext, within-+, within-*}
 use Rattle.meaning.specs.Kernel.{Stage, tap, kernel, width, tapSum, divisor, moment, passAt}
 use Rattle.meaning.specs.Smoothing.{convolved}
-use Rattle.theory.specs.Kernel.{tap-split, kernel-symmetric}
-use Rattle.theory.specs.Convolution.{passAt-ext, convolved-ext, convolved-none, convolved-cons, convolved-append, convolved-const, convolved-+, convolved-*, kernel-sum}
+use Rattle.theory.specs.Kernel.{tap-split}
+use Rattle.theory.specs.Convolution.{passAt-ext, convolved-ext, convolved-none, convolved-cons, convolved-append, convolved-const, convolved-+, convolved-*, kernel-sum, kernel-pairs}
 
 -- ---- its first moment is 0
 kernel-centred : (ss : List Stage) → sumWithin (width ss) (λ m. kernel ss m *ℤ m) ≡ pos 0
-kernel-centred ss = half (sumWithin (width ss) (λ m. kernel ss m *ℤ m)) (
-    ap (λ z. sumWithin (width ss) (λ m. kernel ss m *ℤ m) +ℤ z) (sym (within-neg (width ss) (λ m. kernel ss m *ℤ m)))
-    ∙ sym (within-+ (width ss) _ _)
-    ∙ within-none _ (λ m l. ap (λ z. kernel ss m *ℤ m +ℤ z) (ap (λ z. z *ℤ negℤ m) (kernel-symmetric ss m) ∙ *ℤ-negℤ (kernel ss m) m) ∙ +ℤ-invr (kernel ss m *ℤ m)))
-  where
-    half : (x : ℤ) → x +ℤ x ≡ pos 0 → x ≡ pos 0
-    half x e = omega (zarith, of+ x x)
+kernel-centred ss = kernel-pairs ss (λ m. m) (pos 0) +ℤ-invr ∙ *ℤ-zero (pos (divisor ss))
 
 -- ---- variances add
 convolved-square : (ss : List Stage) (n : ℤ) → convolved ss (λ x. x *ℤ x) n ≡ moment ss +ℤ pos (divisor ss) *ℤ (n *ℤ n)
