@@ -1,10 +1,11 @@
 -- Cells that carry their remainders on, of results r over d.
--- Laws: carry-divided (result and carry by the cell and the next carry), carry-below; carry-near (a cell is less than 1 from its quotient), carry-size;
+-- Laws: carry-cell, carry-next (a cell and the carry behind it, by the one before), carry-none (of the first); carry-divided (result and carry by the cell and the next carry), carry-below; carry-near (a cell is less than 1 from its quotient), carry-size;
 -- carry-sum (d times the first cells, and the carry behind them, are the first results); carry-whole (where d divides the results' sum, nothing is left).
 use Prim.Native.Nat.{ℕ, zero, suc, _+_, _*_, _≤_, _<_}
 use mathlib.Core.Path.{_≡_, refl, sym, _∙_, ap}
 use mathlib.Core.List.{List}
 use native.Mathlib.Nat.{lt-of-mul-lt-mul-left}
+use native.Mathlib.Numerals.{add-one}
 use native.Mathlib.Omega.{arith}
 use lib.IntN.{ℤ, pos, natAbs, _+ℤ_, _-ℤ_, _*ℤ_, +ℤ-idr}
 use Rattle.algebra.specs.Difference.{plus, minus}
@@ -14,7 +15,8 @@ use Rattle.algebra.specs.Solver.{ring, _≗_}
 use Rattle.algebra.specs.Expression.{_⊕_, _⊗_}
 use Rattle.algebra.specs.Division.{Divided, divided-unique}
 use Rattle.algebra.specs.Sum.{sum}
-use Rattle.meaning.specs.Extension.{at}
+use Rattle.meaning.specs.Extension.{at, emod}
+use Rattle.meaning.specs.Values.{floor}
 use Rattle.meaning.specs.Carry.{carry, carryCell}
 use Rattle.theory.specs.Remainder.{emod-divided, emod-below}
 
@@ -30,6 +32,19 @@ near-size z q {d} M h l =
 
 sum-next : (d t c z q e : ℤ) → z +ℤ c ≡ d *ℤ q +ℤ e → d *ℤ t +ℤ c +ℤ z ≡ d *ℤ (t +ℤ q) +ℤ e
 sum-next d t c z q e h = ring 4 (λ d t c z. d ⊗ t ⊕ c ⊕ z ≗ d ⊗ t ⊕ (z ⊕ c)) refl d t c z ∙ ap (λ x. d *ℤ t +ℤ x) h ∙ ring 4 (λ d t q e. d ⊗ t ⊕ (d ⊗ q ⊕ e) ≗ d ⊗ (t ⊕ q) ⊕ e) refl d t q e
+
+module _ (d : ℕ) (r : List ℤ) where
+  pub carry-cell : (n : ℕ) → carryCell d r n ≡ floor (at r n +ℤ pos (carry d r n)) d
+  unfolding carryCell
+  carry-cell n = refl
+
+  pub carry-none : carry d r 0 ≡ 0
+  unfolding carry
+  carry-none = refl
+
+  pub carry-next : (n : ℕ) → carry d r (n + 1) ≡ emod (at r n +ℤ pos (carry d r n)) d
+  unfolding carry
+  carry-next n = ap (carry d r) (add-one n)
 
 module _ {d : ℕ} (h : 0 < d) (r : List ℤ) where
   pub carry-divided : (n : ℕ) → Divided (at r n +ℤ pos (carry d r n)) d (carryCell d r n) (carry d r (suc n))
