@@ -1,4 +1,4 @@
-// Doubles in, and the outputs. Each call is read by one function, and made and printed by the next.
+// Doubles in, and doubles and summaries out. Each call is read by one function, and made and printed by the next.
 ghost use Prim.Native.Nat.{_≤_};
 ghost use lib.ListN.{length};
 use calls_stream::inner::input;
@@ -7,7 +7,7 @@ use calls_stream::inner::output;
 use plan::Plan;
 use summary::Summary;
 
-// Calls 6 to 12.
+// Calls 6, 8, 9, 11 and 12.
 pub fn one_call(
     open: &mut bool,
     number: u64,
@@ -20,10 +20,8 @@ pub fn one_call(
 {
     match number {
         6 => doubles_in(open, samples, doubles, words),
-        7 => whole_series(open, results, samples),
         8 => doubles_series(open, results, doubles, words),
         9 => summary_series(open, results),
-        10 => whole_picture(open, results, samples),
         11 => doubles_picture(open, results, doubles, words),
         _ => summary_picture(open, results),
     }
@@ -44,23 +42,6 @@ fn doubles_in(open: &mut bool, samples: &mut [i32], doubles: &mut [f64], words: 
 fn taken(bound: u64, doubles: &[f64], samples: &mut [i32]) {
     output::answer(samples::doubles_in(bound, doubles, samples));
     output::samples(samples);
-    output::end_line();
-}
-
-// Call 7.
-fn whole_series(open: &mut bool, results: &mut [i64], cells: &mut [i32]) {
-    let plan = input::plan(open);
-    let bound = input::word(open);
-    let n = input::wholes(open, results);
-    let count = input::samples(open, cells);
-    if *open {
-        wholes_of_series(plan, bound, &results[..n], &mut cells[..count]);
-    }
-}
-
-fn wholes_of_series(plan: Plan, bound: u64, results: &[i64], cells: &mut [i32]) {
-    output::answer(whole::whole_series(plan, bound, results, cells));
-    output::samples(cells);
     output::end_line();
 }
 
@@ -93,30 +74,6 @@ fn summary_series(open: &mut bool, results: &mut [i64]) {
     if *open {
         summarised(summary::summary_series(plan, bound, &results[..n]));
     }
-}
-
-// Call 10.
-fn whole_picture(open: &mut bool, results: &mut [i64], cells: &mut [i32]) {
-    let picture = input::picture(open);
-    let n = input::wholes(open, results);
-    let count = input::samples(open, cells);
-    if *open {
-        wholes_of_picture(picture, &results[..n], &mut cells[..count]);
-    }
-}
-
-fn wholes_of_picture(picture: Raster, results: &[i64], cells: &mut [i32]) {
-    output::answer(whole::whole_picture(
-        picture.across,
-        picture.down,
-        picture.bound,
-        picture.width,
-        picture.height,
-        results,
-        cells,
-    ));
-    output::samples(cells);
-    output::end_line();
 }
 
 // Call 11.

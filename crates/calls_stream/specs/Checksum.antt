@@ -17,7 +17,7 @@ use Rattle.algebra.specs.Ring.{ac}
 use Rattle.algebra.specs.Sum.{sum}
 use Rattle.meaning.specs.Extension.{emod}
 use Rattle.theory.specs.Fill.{getD-map}
-use Rattle.theory.specs.HalfSample.{emod-shift, emod-below}
+use Rattle.theory.specs.Remainder.{emod-shift, emod-below}
 
 abbrev pub modulus : ℕ
 modulus = 2147483647

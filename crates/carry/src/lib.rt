@@ -3,7 +3,6 @@ ghost use Rattle.meaning.specs.Carry as meant;
 ghost use Rattle.plan.specs.Structs.{stagesOf};
 ghost use Rattle.carry.specs.Structs.{answerOf};
 ghost use Rattle.carry.specs.Contract.{Gives};
-use plan::Answer;
 use plan::Plan;
 
 mod carrying;
@@ -23,7 +22,8 @@ pub fn carry_series(plan: Plan, bound: u64, results: &[i64], cells: &mut [i32]) 
     if answer.number != 0 {
         return carrying::carried(answer, 0);
     }
-    carrying::carried(answer, carrying::carry_into(plan.divisor(), results, cells))
+    let carry = carrying::carry_into(plan.divisor(), results, cells);
+    carrying::carried(answer, carry)
 }
 
 // The same of a picture, row after row as one run, over the product of both divisors.

@@ -6,7 +6,7 @@ use borrow.Author.Needs.{needs, sfits-of}
 use lib.ListN.{length}
 use mir.Facts.{toZ-ofZ}
 use Rattle.meaning.specs.Extension.{emod}
-use Rattle.theory.specs.HalfSample.{emod-below}
+use Rattle.theory.specs.Remainder.{emod-below}
 use Rattle.calls_stream.specs.Checksum.{modulus, checksumTo, checksum-below, checksum-none, checksum-more}
 use Rattle.calls_stream.proofs.inner.output.checksum.Statement.{statement}
 use Rattle.calls_stream.proofs.inner.output.checksum.Tie as tie
