@@ -21,18 +21,17 @@ use denote.Ref.{now}
 use denote.Triple.Clauses.{AtExit}
 use borrow.Fn.Kinds.{Dens, resT, endedOf}
 use Rattle.meaning.specs.Extension.{at}
-use Rattle.meaning.specs.Refusals.{seriesOf, pictureOf}
 use Rattle.meaning.specs.Values.{ratio, plusZero}
 use Rattle.meaning.specs.Bounds.{AllowedSeriesOut, AllowedPictureOut}
 use Rattle.theory.specs.Values.{whole-exact, count-exact, ratio-zero}
 use Rattle.plan.specs.declared.Plan.{Plan}
-use Rattle.plan.specs.Structs.{stagesOf, answerOf}
+use Rattle.plan.specs.Structs.{stagesOf}
 use Rattle.doubles.proofs.doubles_series.Reads as series-call
 use Rattle.doubles.proofs.doubles_series.Kinds as series-kinds
 use Rattle.doubles.proofs.doubles_picture.Reads as picture-call
 use Rattle.doubles.proofs.doubles_picture.Kinds as picture-kinds
 use Rattle.promises.specs.Smoothings.{Exactly}
-use Rattle.promises.specs.Outputs.{Output, output-cell, output-small, output-divisor, output-series, series-divides, output-picture, picture-divides, series-inputs, picture-inputs, output-same}
+use Rattle.promises.specs.Outputs.{Output, each, output-cell, output-small, output-divisor, output-series, output-picture, convertedSeries, convertedPicture, series-inputs, picture-inputs, output-same}
 
 pub record SeriesCall : Type 1 where
   pub lifetimes : Lfts 2
@@ -64,32 +63,14 @@ width c = c .given .1 .1 .1 .0
 abbrev pub height : PictureCall → ℕ
 height c = c .given .1 .1 .1 .1 .0
 
-abbrev pub ofSeries : SeriesCall → Output ratio
-ofSeries c = record {
-  shape = seriesOf (stagesOf (plan c)) (length (now (c .given .1 .1 .0)));
-  bound = c .given .1 .0;
-  results = now (c .given .1 .1 .0);
-  cells = now (c .given .1 .1 .1 .0);
-  answer = answerOf (c .answered);
-  left = now (c .left .1 .1 .1 .0);
-  gives = c .learnt;
-  divides = series-divides ratio (c .given .1 .0) (now (c .given .1 .1 .0)) (now (c .given .1 .1 .1 .0)) (stagesOf (plan c)) (c .learnt);
-}
+abbrev pub ofSeries : SeriesCall → Output (each ratio)
+ofSeries c = convertedSeries ratio (c .given .1 .0) (now (c .given .1 .1 .0)) (now (c .given .1 .1 .1 .0)) (stagesOf (plan c)) (c .learnt)
 
-abbrev pub ofPicture : PictureCall → Output ratio
-ofPicture c = record {
-  shape = pictureOf (stagesOf (across c)) (stagesOf (down c)) (width c) (height c);
-  bound = c .given .1 .1 .0;
-  results = now (c .given .1 .1 .1 .1 .1 .0);
-  cells = now (c .given .1 .1 .1 .1 .1 .1 .0);
-  answer = answerOf (c .answered);
-  left = now (c .left .1 .1 .1 .1 .1 .1 .0);
-  gives = c .learnt;
-  divides = picture-divides ratio (c .given .1 .1 .0) (now (c .given .1 .1 .1 .1 .1 .0)) (now (c .given .1 .1 .1 .1 .1 .1 .0)) (stagesOf (across c)) (stagesOf (down c)) (width c) (height c) (c .learnt);
-}
+abbrev pub ofPicture : PictureCall → Output (each ratio)
+ofPicture c = convertedPicture ratio (c .given .1 .1 .0) (now (c .given .1 .1 .1 .1 .1 .0)) (now (c .given .1 .1 .1 .1 .1 .1 .0)) (stagesOf (across c)) (stagesOf (down c)) (width c) (height c) (c .learnt)
 
 -- ---- its cells
-module _ (o : Output ratio) (e : o .answer .number ≡ 0) {i : ℕ} (l : i < length (o .results)) where
+module _ (o : Output (each ratio)) (e : o .answer .number ≡ 0) {i : ℕ} (l : i < length (o .results)) where
   abbrev D : ℤ
   D = pos (o .shape .divisor)
 
@@ -114,10 +95,10 @@ module _ (o : Output ratio) (e : o .answer .number ≡ 0) {i : ℕ} (l : i < len
 
 -- ---- its bounds
 pub doubles-series-allowed : (c : SeriesCall) → Exactly (ofSeries c .answer .number ≡ 0) (AllowedSeriesOut (stagesOf (plan c)) (ofSeries c .bound) (ofSeries c .results) (length (ofSeries c .cells)))
-doubles-series-allowed c = output-series ratio _ _ _ (stagesOf (plan c)) (c .learnt)
+doubles-series-allowed c = output-series _ _ _ (stagesOf (plan c)) (ofSeries c .answers)
 
 pub doubles-picture-allowed : (c : PictureCall) → Exactly (ofPicture c .answer .number ≡ 0) (AllowedPictureOut (stagesOf (across c)) (stagesOf (down c)) (ofPicture c .bound) (width c) (height c) (ofPicture c .results) (length (ofPicture c .cells)))
-doubles-picture-allowed c = output-picture ratio _ _ _ (stagesOf (across c)) (stagesOf (down c)) (width c) (height c) (c .learnt)
+doubles-picture-allowed c = output-picture _ _ _ (stagesOf (across c)) (stagesOf (down c)) (width c) (height c) (ofPicture c .answers)
 
 -- ---- two calls
 pub doubles-series-one : (c d : SeriesCall) → plan c ≡ plan d → ofSeries c .bound ≡ ofSeries d .bound → ofSeries c .results ≡ ofSeries d .results → ofSeries c .cells ≡ ofSeries d .cells

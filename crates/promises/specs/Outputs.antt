@@ -1,13 +1,14 @@
--- Putting results out: what holds of whole numbers and of doubles, of a series and of a picture alike.
---   Output g         an outcome that a call's contract allows: shape, bound, results and cells as given; answer, and the cells left. g makes a cell of a result and the divisor,
---                    which is not 0 where the call is done
+-- Putting results out: what holds of every output that leaves cells, of a series and of a picture alike.
+--   Output made      an outcome that a call's contract allows: shape, bound, results and cells as given; answer, and the cells left. `made` is what it makes of the divisor,
+--                    which is not 0 where the call is done, and the results
+--   each g           what makes each cell of its result alone, by g
+--   seriesOutput, pictureOutput   such an outcome, of a series and of a picture;  convertedSeries, convertedPicture  of one that makes each cell by g
 --   rows             its rows of the table of numbers
 --   output-lowest    the number is 0, or that of a row that applies, and then the lowest of those
 --   output-done      it is 0 exactly where no row applies
 --   output-place-12, output-place-other   at 12 the place is that of the first result above M times the divisor, else 0
 --   output-unchanged a refused call leaves every cell as it was
---   output-length    one that is done leaves as many cells as there are results
---   output-cell      and each is g of its result and the divisor
+--   output-whole     one that is done leaves what it makes; output-length, output-cell say of `each g` that these are as many as the results, and each is g of its result and the divisor
 --   output-small, output-divisor   no result is above M times the divisor, nor are that and the divisor above the largest result
 --   output-series, output-picture   the number is 0 exactly where the bounds of a series hold, and of a picture
 --   series-divides, picture-divides   and then the divisor is not 0
@@ -24,7 +25,7 @@ use lib.IntN.{ℤ, pos, natAbs}
 use Rattle.meaning.specs.Limits.{maxResult}
 use Rattle.meaning.specs.Extension.{at}
 use Rattle.meaning.specs.Kernel.{Stage, divisor}
-use Rattle.meaning.specs.Refusals.{Answer, Row, firstOf, Applies, Shape, seriesOf, pictureOf}
+use Rattle.meaning.specs.Refusals.{Answer, Row, firstOf, Applies, Shape, seriesOf, pictureOf, ifDone}
 use Rattle.meaning.specs.Values.{Converted, outputRows, converted}
 use Rattle.meaning.specs.Bounds.{AllowedSeriesOut, AllowedPictureOut, FirstAt}
 use Rattle.theory.specs.Refusals.{number-lowest, number-none, ifDone-done, ifDone-refused}
@@ -36,26 +37,26 @@ use Rattle.plan.specs.Structs.{stagesOf, answerOf}
 use Rattle.plan.specs.Contract.{Gives}
 use Rattle.promises.specs.Smoothings.{Exactly, back}
 
-pub record Output {A : Type 0} (g : ℤ → ℕ → A) : Type 0 where
+abbrev pub each : {A : Type 0} → (ℤ → ℕ → A) → ℕ → List ℤ → List A
+each g d r = map (λ z. g z d) r
+
+pub record Output {A : Type 0} (made : ℕ → List ℤ → List A) : Type 0 where
   pub shape : Shape
   pub bound : ℕ
   pub results : List ℤ
   pub cells : List A
   pub answer : Answer
   pub left : List A
-  pub gives : Gives (converted g shape bound results cells) answer left
+  pub answers : answer ≡ firstOf (outputRows shape bound results (length cells))
+  pub leaves : left ≡ ifDone answer (made (shape .divisor) results) cells
   pub divides : answer .number ≡ 0 → 0 < shape .divisor
 
-abbrev pub rows : {A : Type 0} {g : ℤ → ℕ → A} → Output g → List Row
+abbrev pub rows : {A : Type 0} {made : ℕ → List ℤ → List A} → Output made → List Row
 rows o = outputRows (o .shape) (o .bound) (o .results) (length (o .cells))
 
-module _ {A : Type 0} {g : ℤ → ℕ → A} (o : Output g) where
-  answer-is : o .answer ≡ firstOf (rows o)
-  unfolding converted
-  answer-is = o .gives .answer
-
+module _ {A : Type 0} {made : ℕ → List ℤ → List A} (o : Output made) where
   number-is : o .answer .number ≡ firstOf (rows o) .number
-  number-is = ap (λ (x : Answer). x .number) answer-is
+  number-is = ap (λ (x : Answer). x .number) (o .answers)
 
   pub output-lowest : (o .answer .number ≢ 0 → Applies (o .answer .number) (rows o)) × ((n : ℕ) → Applies n (rows o) → o .answer .number ≤ n)
   output-lowest = number-lowest (rows o) number-is (tested.output-rising _ _ _ _)
@@ -64,26 +65,18 @@ module _ {A : Type 0} {g : ℤ → ℕ → A} (o : Output g) where
   output-done = number-none (rows o) number-is (tested.output-numbered _ _ _ _)
 
   pub output-place-12 : o .answer .number ≡ 12 → FirstAt (length (o .results)) (λ i. o .bound * o .shape .divisor < natAbs (at (o .results) i)) (o .answer .position)
-  output-place-12 = tested.output-position _ _ _ _ answer-is
+  output-place-12 = tested.output-position _ _ _ _ (o .answers)
 
   pub output-place-other : o .answer .number ≢ 12 → o .answer .position ≡ 0
-  output-place-other = tested.output-no-position _ _ _ _ answer-is
+  output-place-other = tested.output-no-position _ _ _ _ (o .answers)
 
   pub output-unchanged : o .answer .number ≢ 0 → o .left ≡ o .cells
-  unfolding converted
-  output-unchanged n = o .gives .cells ∙ ifDone-refused _ _ _ (λ e. n (number-is ∙ e))
+  output-unchanged n = o .leaves ∙ ifDone-refused _ _ _ n
 
   -- a call that is done
   module _ (e : o .answer .number ≡ 0) where
-    whole : o .left ≡ map (λ z. g z (o .shape .divisor)) (o .results)
-    unfolding converted
-    whole = o .gives .cells ∙ ifDone-done _ _ _ (sym number-is ∙ e)
-
-    pub output-length : length (o .left) ≡ length (o .results)
-    output-length = ap length whole ∙ length-map (o .results) _
-
-    pub output-cell : (x : A) {i : ℕ} → i < length (o .results) → getD (o .left) i x ≡ g (at (o .results) i) (o .shape .divisor)
-    output-cell x {i} l = ap (λ (f : List A). getD f i x) whole ∙ getD-map _ (o .results) i (pos 0) x l
+    pub output-whole : o .left ≡ made (o .shape .divisor) (o .results)
+    output-whole = o .leaves ∙ ifDone-done _ _ _ e
 
     pub output-small : (o .bound * o .shape .divisor ≤ maxResult) × ((i : ℕ) → i < length (o .results) → natAbs (at (o .results) i) ≤ o .bound * o .shape .divisor)
     output-small = let z = sym number-is ∙ e in (tested.output-bounds _ _ _ _ z .1, tested.output-lent _ _ _ _ z .1 .results)
@@ -91,25 +84,55 @@ module _ {A : Type 0} {g : ℤ → ℕ → A} (o : Output g) where
     pub output-divisor : o .shape .divisor ≤ maxResult
     output-divisor = let z = sym number-is ∙ e in omega (arith, tested.output-bounds _ _ _ _ z .1, mul-le-mul-right (o .shape .divisor) (tested.output-bounds _ _ _ _ z .0 .0))
 
+module _ {A : Type 0} {g : ℤ → ℕ → A} (o : Output (each g)) (e : o .answer .number ≡ 0) where
+  pub output-length : length (o .left) ≡ length (o .results)
+  output-length = ap length (output-whole o e) ∙ length-map (o .results) _
+
+  pub output-cell : (x : A) {i : ℕ} → i < length (o .results) → getD (o .left) i x ≡ g (at (o .results) i) (o .shape .divisor)
+  output-cell x {i} l = ap (λ (f : List A). getD f i x) (output-whole o e) ∙ getD-map _ (o .results) i (pos 0) x l
+
 -- ---- its bounds
-module _ {A : Type 0} (g : ℤ → ℕ → A) (M : ℕ) (r : List ℤ) (cells : List A) {a : Answer} {left : List A} where
-  pub output-series : (ss : List Stage) → Gives (converted g (seriesOf ss (length r)) M r cells) a left → Exactly (a .number ≡ 0) (AllowedSeriesOut ss M r (length cells))
-  unfolding converted
+module _ (M : ℕ) (r : List ℤ) (n : ℕ) {a : Answer} where
+  pub output-series : (ss : List Stage) → a ≡ firstOf (outputRows (seriesOf ss (length r)) M r n) → Exactly (a .number ≡ 0) (AllowedSeriesOut ss M r n)
   output-series ss h =
-      let is = ap (λ (x : Answer). x .number) (h .answer) in
-      (λ e. tested.series-out-allowed ss M r _ (sym is ∙ e), λ ok. is ∙ ap (λ (x : Answer). x .number) (tested.allowed-series-out ss M r _ ok))
+      let is = ap (λ (x : Answer). x .number) h in
+      (λ e. tested.series-out-allowed ss M r n (sym is ∙ e), λ ok. is ∙ ap (λ (x : Answer). x .number) (tested.allowed-series-out ss M r n ok))
 
-  pub series-divides : (ss : List Stage) → Gives (converted g (seriesOf ss (length r)) M r cells) a left → a .number ≡ 0 → 0 < divisor ss
-  series-divides ss h e = tested.series-out-divisor ss M r _ (output-series ss h .0 e)
+  pub series-divides : (ss : List Stage) → a ≡ firstOf (outputRows (seriesOf ss (length r)) M r n) → a .number ≡ 0 → 0 < divisor ss
+  series-divides ss h e = tested.series-out-divisor ss M r n (output-series ss h .0 e)
 
-  pub output-picture : (hs vs : List Stage) (W H : ℕ) → Gives (converted g (pictureOf hs vs W H) M r cells) a left → Exactly (a .number ≡ 0) (AllowedPictureOut hs vs M W H r (length cells))
-  unfolding converted
+  pub output-picture : (hs vs : List Stage) (W H : ℕ) → a ≡ firstOf (outputRows (pictureOf hs vs W H) M r n) → Exactly (a .number ≡ 0) (AllowedPictureOut hs vs M W H r n)
   output-picture hs vs W H h =
-      let is = ap (λ (x : Answer). x .number) (h .answer) in
-      (λ e. tested.picture-out-allowed hs vs M W H r _ (sym is ∙ e), λ ok. is ∙ ap (λ (x : Answer). x .number) (tested.allowed-picture-out hs vs M W H r _ ok))
+      let is = ap (λ (x : Answer). x .number) h in
+      (λ e. tested.picture-out-allowed hs vs M W H r n (sym is ∙ e), λ ok. is ∙ ap (λ (x : Answer). x .number) (tested.allowed-picture-out hs vs M W H r n ok))
 
-  pub picture-divides : (hs vs : List Stage) (W H : ℕ) → Gives (converted g (pictureOf hs vs W H) M r cells) a left → a .number ≡ 0 → 0 < divisor hs * divisor vs
-  picture-divides hs vs W H h e = tested.picture-out-divisor hs vs M W H r _ (output-picture hs vs W H h .0 e)
+  pub picture-divides : (hs vs : List Stage) (W H : ℕ) → a ≡ firstOf (outputRows (pictureOf hs vs W H) M r n) → a .number ≡ 0 → 0 < divisor hs * divisor vs
+  picture-divides hs vs W H h e = tested.picture-out-divisor hs vs M W H r n (output-picture hs vs W H h .0 e)
+
+-- ---- of a series and of a picture
+module _ {A : Type 0} {made : ℕ → List ℤ → List A} (M : ℕ) (r : List ℤ) (cells : List A) {a : Answer} {left : List A} where
+  abbrev pub seriesOutput : (ss : List Stage) → a ≡ firstOf (outputRows (seriesOf ss (length r)) M r (length cells)) → left ≡ ifDone a (made (divisor ss) r) cells → Output made
+  seriesOutput ss h l = record { shape = seriesOf ss (length r); bound = M; results = r; cells = cells; answer = a; left = left; answers = h; leaves = l; divides = series-divides M r (length cells) ss h }
+
+  abbrev pub pictureOutput : (hs vs : List Stage) (W H : ℕ) → a ≡ firstOf (outputRows (pictureOf hs vs W H) M r (length cells)) → left ≡ ifDone a (made (divisor hs * divisor vs) r) cells → Output made
+  pictureOutput hs vs W H h l = record { shape = pictureOf hs vs W H; bound = M; results = r; cells = cells; answer = a; left = left; answers = h; leaves = l; divides = picture-divides M r (length cells) hs vs W H h }
+
+-- ---- of a conversion
+module _ {A : Type 0} (g : ℤ → ℕ → A) (s : Shape) (M : ℕ) (r : List ℤ) (cells : List A) {a : Answer} {left : List A} (h : Gives (converted g s M r cells) a left) where
+  pub converted-answers : a ≡ firstOf (outputRows s M r (length cells))
+  unfolding converted
+  converted-answers = h .answer
+
+  pub converted-leaves : left ≡ ifDone a (each g (s .divisor) r) cells
+  unfolding converted
+  converted-leaves = h .cells ∙ ap (λ (x : Answer). ifDone x (each g (s .divisor) r) cells) (sym (h .answer))
+
+module _ {A : Type 0} (g : ℤ → ℕ → A) (M : ℕ) (r : List ℤ) (cells : List A) {a : Answer} {left : List A} where
+  abbrev pub convertedSeries : (ss : List Stage) → Gives (converted g (seriesOf ss (length r)) M r cells) a left → Output (each g)
+  convertedSeries ss h = let s = seriesOf ss (length r) in seriesOutput M r cells ss (converted-answers g s M r cells h) (converted-leaves g s M r cells h)
+
+  abbrev pub convertedPicture : (hs vs : List Stage) (W H : ℕ) → Gives (converted g (pictureOf hs vs W H) M r cells) a left → Output (each g)
+  convertedPicture hs vs W H h = let s = pictureOf hs vs W H in pictureOutput M r cells hs vs W H (converted-answers g s M r cells h) (converted-leaves g s M r cells h)
 
 -- ---- two calls
 module _ {A : Type 0} (g : ℤ → ℕ → A) where

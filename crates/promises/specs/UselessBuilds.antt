@@ -35,7 +35,7 @@ use Rattle.meaning.specs.Smoothing.{listOf, convolved, weight, near}
 use Rattle.meaning.specs.Refusals as meant
 use Rattle.meaning.specs.Refusals.{firstOf, firstWhere, rowAt, some, planRows, sizeRows, Shape, seriesOf, pictureOf, ifDone}
 use Rattle.meaning.specs.Calls.{smoothRows, gained, editRows, countWhere, changed, Edited, editSeries, pointRows, point}
-use Rattle.meaning.specs.Values.{takes, doubleRows, doublesIn, outputRows, converted, Summary, summary}
+use Rattle.meaning.specs.Values.{takes, doubleRows, doublesIn, outputRows, Summary, summary}
 use Rattle.meaning.specs.Planner.{largest, radiusFor, plannerRows, Planned, planFor}
 use Rattle.meaning.specs.Encoding.{bytes, number}
 use Rattle.meaning.specs.Record.{Job, field, sampleBytes, recordOf, begins, reading, readRecord, recordSize}
@@ -201,9 +201,8 @@ unfolding outputRows firstOf firstWhere rowAt some planRows sizeRows tapSum divi
 output-number (inl s) m r n = rw (s, m, r, n) refl
 output-number (inr s) m r n = rw (s, m, r, n) refl
 
-pub output-not-refused : {A : Type 0} {g : ℤ → ℕ → A} (o : Output g) → Small (o .shape) → o .bound ≡ 9 → o .results ≡ pos 16 ∷ pos 12 ∷ pos 4 ∷ [] → length (o .cells) ≡ 3 → o .answer .number ≡ 0
-unfolding converted
-output-not-refused o s m r n = ap (λ (a : meant.Answer). a .number) (o .gives .answer) ∙ output-number s m r n
+pub output-not-refused : {A : Type 0} {made : ℕ → List ℤ → List A} (o : Output made) → Small (o .shape) → o .bound ≡ 9 → o .results ≡ pos 16 ∷ pos 12 ∷ pos 4 ∷ [] → length (o .cells) ≡ 3 → o .answer .number ≡ 0
+output-not-refused o s m r n = ap (λ (a : meant.Answer). a .number) (o .answers) ∙ output-number s m r n
 
 pub summary-not-refused : (o : Summing) → Small (o .shape) → o .bound ≡ 9 → o .results ≡ pos 16 ∷ pos 12 ∷ pos 4 ∷ [] → o .answered .answer .number ≡ 0
 unfolding summary

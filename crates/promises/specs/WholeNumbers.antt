@@ -7,7 +7,7 @@
 --   whole-size         and the cell has size at most the bound
 --   whole-series-allowed, whole-picture-allowed   it is done exactly where the bounds hold
 --   whole-series-one, whole-picture-one   two outcomes that the contract allows are the same
-use Prim.Native.Nat.{ℕ, _*_, _≤_, _<_}
+use Prim.Native.Nat.{ℕ, _≤_, _<_}
 use mathlib.Core.Path.{_≡_}
 use lib.ListN.{length}
 use lib.IntN.{ℤ, pos, natAbs, _-ℤ_, _*ℤ_}
@@ -17,18 +17,17 @@ use denote.Ref.{now}
 use denote.Triple.Clauses.{AtExit}
 use borrow.Fn.Kinds.{Dens, resT, endedOf}
 use Rattle.meaning.specs.Extension.{at}
-use Rattle.meaning.specs.Refusals.{seriesOf, pictureOf}
 use Rattle.meaning.specs.Values.{nearest}
 use Rattle.meaning.specs.Bounds.{AllowedSeriesOut, AllowedPictureOut}
 use Rattle.theory.specs.Nearest.{nearest-nearest, nearest-half, nearest-size}
 use Rattle.plan.specs.declared.Plan.{Plan}
-use Rattle.plan.specs.Structs.{stagesOf, answerOf}
+use Rattle.plan.specs.Structs.{stagesOf}
 use Rattle.whole.proofs.whole_series.Reads as series-call
 use Rattle.whole.proofs.whole_series.Kinds as series-kinds
 use Rattle.whole.proofs.whole_picture.Reads as picture-call
 use Rattle.whole.proofs.whole_picture.Kinds as picture-kinds
 use Rattle.promises.specs.Smoothings.{Exactly}
-use Rattle.promises.specs.Outputs.{Output, output-cell, output-small, output-series, series-divides, output-picture, picture-divides, series-inputs, picture-inputs, output-same}
+use Rattle.promises.specs.Outputs.{Output, each, output-cell, output-small, output-series, output-picture, convertedSeries, convertedPicture, series-inputs, picture-inputs, output-same}
 
 pub record SeriesCall : Type 1 where
   pub lifetimes : Lfts 2
@@ -60,32 +59,14 @@ width c = c .given .1 .1 .1 .0
 abbrev pub height : PictureCall → ℕ
 height c = c .given .1 .1 .1 .1 .0
 
-abbrev pub ofSeries : SeriesCall → Output nearest
-ofSeries c = record {
-  shape = seriesOf (stagesOf (plan c)) (length (now (c .given .1 .1 .0)));
-  bound = c .given .1 .0;
-  results = now (c .given .1 .1 .0);
-  cells = now (c .given .1 .1 .1 .0);
-  answer = answerOf (c .answered);
-  left = now (c .left .1 .1 .1 .0);
-  gives = c .learnt;
-  divides = series-divides nearest (c .given .1 .0) (now (c .given .1 .1 .0)) (now (c .given .1 .1 .1 .0)) (stagesOf (plan c)) (c .learnt);
-}
+abbrev pub ofSeries : SeriesCall → Output (each nearest)
+ofSeries c = convertedSeries nearest (c .given .1 .0) (now (c .given .1 .1 .0)) (now (c .given .1 .1 .1 .0)) (stagesOf (plan c)) (c .learnt)
 
-abbrev pub ofPicture : PictureCall → Output nearest
-ofPicture c = record {
-  shape = pictureOf (stagesOf (across c)) (stagesOf (down c)) (width c) (height c);
-  bound = c .given .1 .1 .0;
-  results = now (c .given .1 .1 .1 .1 .1 .0);
-  cells = now (c .given .1 .1 .1 .1 .1 .1 .0);
-  answer = answerOf (c .answered);
-  left = now (c .left .1 .1 .1 .1 .1 .1 .0);
-  gives = c .learnt;
-  divides = picture-divides nearest (c .given .1 .1 .0) (now (c .given .1 .1 .1 .1 .1 .0)) (now (c .given .1 .1 .1 .1 .1 .1 .0)) (stagesOf (across c)) (stagesOf (down c)) (width c) (height c) (c .learnt);
-}
+abbrev pub ofPicture : PictureCall → Output (each nearest)
+ofPicture c = convertedPicture nearest (c .given .1 .1 .0) (now (c .given .1 .1 .1 .1 .1 .0)) (now (c .given .1 .1 .1 .1 .1 .1 .0)) (stagesOf (across c)) (stagesOf (down c)) (width c) (height c) (c .learnt)
 
 -- ---- its cells
-module _ (o : Output nearest) (e : o .answer .number ≡ 0) {i : ℕ} (l : i < length (o .results)) where
+module _ (o : Output (each nearest)) (e : o .answer .number ≡ 0) {i : ℕ} (l : i < length (o .results)) where
   abbrev D : ℤ
   D = pos (o .shape .divisor)
 
@@ -109,10 +90,10 @@ module _ (o : Output nearest) (e : o .answer .number ≡ 0) {i : ℕ} (l : i < l
 
 -- ---- its bounds
 pub whole-series-allowed : (c : SeriesCall) → Exactly (ofSeries c .answer .number ≡ 0) (AllowedSeriesOut (stagesOf (plan c)) (ofSeries c .bound) (ofSeries c .results) (length (ofSeries c .cells)))
-whole-series-allowed c = output-series nearest _ _ _ (stagesOf (plan c)) (c .learnt)
+whole-series-allowed c = output-series _ _ _ (stagesOf (plan c)) (ofSeries c .answers)
 
 pub whole-picture-allowed : (c : PictureCall) → Exactly (ofPicture c .answer .number ≡ 0) (AllowedPictureOut (stagesOf (across c)) (stagesOf (down c)) (ofPicture c .bound) (width c) (height c) (ofPicture c .results) (length (ofPicture c .cells)))
-whole-picture-allowed c = output-picture nearest _ _ _ (stagesOf (across c)) (stagesOf (down c)) (width c) (height c) (c .learnt)
+whole-picture-allowed c = output-picture _ _ _ (stagesOf (across c)) (stagesOf (down c)) (width c) (height c) (ofPicture c .answers)
 
 -- ---- two calls
 pub whole-series-one : (c d : SeriesCall) → plan c ≡ plan d → ofSeries c .bound ≡ ofSeries d .bound → ofSeries c .results ≡ ofSeries d .results → ofSeries c .cells ≡ ofSeries d .cells
