@@ -212,7 +212,7 @@ export function doublesIn({ bound, doubles, samples }) {
   return { ...DONE, samples: Int32Array.from(doubles) };
 }
 
-// The three outputs.
+// The outputs.
 
 function floorOfQuotient(over, under) {
   const quotient = over / under;
@@ -243,6 +243,18 @@ function asSummary(results, divisor) {
   };
 }
 
+// Whole numbers that add up: what a cell leaves over is carried on to the next, and the last carry is answered.
+function asCarried(results, divisor) {
+  let carry = 0n;
+  const cells = Int32Array.from(results, (result) => {
+    const sum = result + carry;
+    const cell = floorOfQuotient(sum, divisor);
+    carry = sum - cell * divisor;
+    return Number(cell);
+  });
+  return { carry, cells };
+}
+
 const EMPTY_SUMMARY = { lowest: 0, highest: 0, indexOfLowest: 0n, indexOfHighest: 0n };
 
 // An output's refusal for a series (cells is absent in a summary) and for a picture.
@@ -271,6 +283,10 @@ function summaryOut(refused, results, divisor) {
   return refused ? { ...refused, ...EMPTY_SUMMARY } : { ...DONE, ...asSummary(results, divisor) };
 }
 
+function carryOut(refused, { results, cells }, divisor) {
+  return refused ? { ...refused, carry: 0n, cells } : { ...DONE, ...asCarried(results, divisor) };
+}
+
 export function wholeSeries(args) {
   const refused = seriesOutputRefused(args);
   return cellsOut(refused, args, refused ? null : divisorOf(args.plan), asWhole);
@@ -286,6 +302,11 @@ export function summarySeries(args) {
   return summaryOut(refused, args.results, refused ? null : divisorOf(args.plan));
 }
 
+export function carrySeries(args) {
+  const refused = seriesOutputRefused(args);
+  return carryOut(refused, args, refused ? null : divisorOf(args.plan));
+}
+
 export function wholePicture(args) {
   const refused = pictureOutputRefused(args);
   return cellsOut(refused, args, refused ? null : divisorOfAll([args.across, args.down]), asWhole);
@@ -299,4 +320,9 @@ export function doublesPicture(args) {
 export function summaryPicture(args) {
   const refused = pictureOutputRefused(args);
   return summaryOut(refused, args.results, refused ? null : divisorOfAll([args.across, args.down]));
+}
+
+export function carryPicture(args) {
+  const refused = pictureOutputRefused(args);
+  return carryOut(refused, args, refused ? null : divisorOfAll([args.across, args.down]));
 }

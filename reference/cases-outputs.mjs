@@ -67,7 +67,8 @@ function doublesInCases() {
   return [...single, ...DOUBLES_EDGES, ...doublesInFaults(), ...chosen];
 }
 
-// The outputs, calls 7 to 12. One list of results serves all three: a series as it stands, a picture by sides.
+// The outputs, calls 7 to 12, and what their cases share with those of calls 15 and 16.
+// One list of results serves all three: a series as it stands, a picture by sides.
 // A case of the list is a note, a plan, a bound and results; a picture's is two plans, a bound, sides and results.
 
 const BASE = 2n ** 30n * divisorOf(SEVENS);
@@ -79,6 +80,21 @@ function about(divisor, low, high) {
   const near = [-half - 1, -half, -half + 1, half - 1, half, half + 1];
   return times(high - low + 1, (n) => low + n).flatMap((whole) => near.map((each) => whole * divisor + each));
 }
+
+// Results above the limits, and long lists.
+export const LIMIT_LISTS = [
+  ['above at 1', THREE, 10, [0, 31]],
+  ['below at 0, above at 1', THREE, 10, [-31, 31]],
+  ['above at 2, the first of two', THREE, 10, [0, 0, 31, LEAST_I64]],
+  ['least 64-bit', THREE, 10, [0, LEAST_I64]],
+  ['largest 64-bit', THREE, 10, [LARGEST_I64]],
+  ['one above the largest product', LARGE, LARGE_BOUND, [LARGE_MOST, LARGE_MOST + 1n]],
+  ['one below minus the largest product', LARGE, LARGE_BOUND, [-LARGE_MOST, 0, -LARGE_MOST - 1n]],
+  ['2^53 is one above 2^53 - 1', LARGE, LARGE_BOUND, [2n ** 53n]],
+  ['65 results', EIGHT, 9, times(65, (n) => n - 40)],
+  ['65,536 results', EIGHT, 9, [...filled(40_000, 9), ...filled(25_536, -68)]],
+  ['65,537 results', EIGHT, 9, filled(65_537, 99)],
+];
 
 const RESULT_LISTS = [
   ['example', EIGHT, 4, [16, 12, 4]],
@@ -110,17 +126,7 @@ const RESULT_LISTS = [
   ['different results with one quotient, highest last', SEVENS, BOUND_OF_SEVENS, [BASE + 1n, BASE + 2n]],
   ['different negative results with one quotient', SEVENS, BOUND_OF_SEVENS, [-BASE - 1n, -BASE - 2n, -BASE - 1n]],
   ['quotients that are rounded', plan(1, 3, 2, 3), 9999, [1, -1, 2, 7, 1000, -999_999]],
-  ['above at 1', THREE, 10, [0, 31]],
-  ['below at 0, above at 1', THREE, 10, [-31, 31]],
-  ['above at 2, the first of two', THREE, 10, [0, 0, 31, LEAST_I64]],
-  ['least 64-bit', THREE, 10, [0, LEAST_I64]],
-  ['largest 64-bit', THREE, 10, [LARGEST_I64]],
-  ['one above the largest product', LARGE, LARGE_BOUND, [LARGE_MOST, LARGE_MOST + 1n]],
-  ['one below minus the largest product', LARGE, LARGE_BOUND, [-LARGE_MOST, 0, -LARGE_MOST - 1n]],
-  ['2^53 is one above 2^53 - 1', LARGE, LARGE_BOUND, [2n ** 53n]],
-  ['65 results', EIGHT, 9, times(65, (n) => n - 40)],
-  ['65,536 results', EIGHT, 9, [...filled(40_000, 9), ...filled(25_536, -68)]],
-  ['65,537 results', EIGHT, 9, filled(65_537, 99)],
+  ...LIMIT_LISTS,
 ];
 
 function chosenResults(below, length, plans, bound) {
@@ -141,7 +147,7 @@ function chosenSeriesLists(below) {
 }
 
 // The cells at entry: whole ones and doubles, among them values that no conversion could keep.
-const WHOLE_CELLS = (length) => times(length, (n) => [7, LEAST_I32, -7][n] ?? 8);
+export const WHOLE_CELLS = (length) => times(length, (n) => [7, LEAST_I32, -7][n] ?? 8);
 const DOUBLE_CELLS = (length) => times(length, (n) => [bitsOf(-0), NEGATIVE_NAN, SIGNALLING_NAN][n] ?? bitsOf(0.1));
 const NO_CELLS = null;
 
@@ -157,9 +163,10 @@ function resultFaults() {
   ];
 }
 
-function seriesOutputs(call, cells) {
-  const lists = [...RESULT_LISTS, ...chosenSeriesLists(chance(200 + call))];
-  const listed = lists.map(([note, chosen, bound, results]) => (
+// The cases of a call that puts results out: these lists, chosen ones, and refusals.
+export function seriesOutputs(call, cells, lists) {
+  const all = [...lists, ...chosenSeriesLists(chance(200 + call))];
+  const listed = all.map(([note, chosen, bound, results]) => (
     { note, args: withCells({ plan: chosen, bound, results }, cells) }));
   const good = withCells({ plan: EIGHT, bound: 1000, results: [5, -3] }, cells);
   const faults = [
@@ -172,7 +179,7 @@ function seriesOutputs(call, cells) {
 }
 
 // The lists again as pictures of one row or column, with the plan across or down; and pictures proper.
-function sidesOf(length, n) {
+export function sidesOf(length, n) {
   if (length % 2 === 0) return [2, length / 2];
   return n % 2 === 0 ? [length, 1] : [1, length];
 }
@@ -186,9 +193,8 @@ function listedPictures() {
 
 const MOST_EXACT = 2n ** 53n - 1n;
 
-const PICTURE_LISTS = [
-  ['example', [FIVE, FIVE], 1, [2, 2], [16, 4, 4, 1]],
-  ['divisor is the product', [THREE, EIGHT], 10, [3, 2], [240, -240, 12, -12, 36, -36]],
+// Results about the limits, and sides.
+export const PICTURE_LIMIT_LISTS = [
   ['one above the product', [THREE, EIGHT], 10, [2, 2], [0, 0, 241, 0]],
   ['product 2^53 - 1', EXACT, EXACT_BOUND, [2, 2], [MOST_EXACT, -MOST_EXACT, MOST_EXACT - 1n, 1]],
   ['2^53, product 2^53 - 1', EXACT, EXACT_BOUND, [2, 1], [0, 2n ** 53n]],
@@ -203,6 +209,13 @@ const PICTURE_LISTS = [
   ['results one long', [THREE, EIGHT], 10, [2, 2], [1, 2, 3, 4, 5]],
 ];
 
+const PICTURE_LISTS = [
+  ['example', [FIVE, FIVE], 1, [2, 2], [16, 4, 4, 1]],
+  ['divisor is the product', [THREE, EIGHT], 10, [3, 2], [240, -240, 12, -12, 36, -36]],
+  ...PICTURE_LIMIT_LISTS,
+  ...listedPictures(),
+];
+
 function chosenPictureLists(below) {
   return times(16, (n) => {
     const across = anyPlan(below, 1 + n % 8, 2n ** 40n);
@@ -214,9 +227,9 @@ function chosenPictureLists(below) {
   });
 }
 
-function pictureOutputs(call, cells) {
-  const lists = [...PICTURE_LISTS, ...listedPictures(), ...chosenPictureLists(chance(200 + call))];
-  const listed = lists.map(([note, [across, down], bound, [width, height], results]) => (
+export function pictureOutputs(call, cells, lists) {
+  const all = [...lists, ...chosenPictureLists(chance(200 + call))];
+  const listed = all.map(([note, [across, down], bound, [width, height], results]) => (
     { note, args: withCells({ across, down, bound, width, height, results }, cells) }));
   const good = withCells({ across: EIGHT, down: THREE, bound: 1000, width: 1, height: 2, results: [5, -3] }, cells);
   const faults = [
@@ -229,10 +242,10 @@ function pictureOutputs(call, cells) {
 
 export const casesOfOutputs = {
   6: doublesInCases,
-  7: () => seriesOutputs(7, WHOLE_CELLS),
-  8: () => seriesOutputs(8, DOUBLE_CELLS),
-  9: () => seriesOutputs(9, NO_CELLS),
-  10: () => pictureOutputs(10, WHOLE_CELLS),
-  11: () => pictureOutputs(11, DOUBLE_CELLS),
-  12: () => pictureOutputs(12, NO_CELLS),
+  7: () => seriesOutputs(7, WHOLE_CELLS, RESULT_LISTS),
+  8: () => seriesOutputs(8, DOUBLE_CELLS, RESULT_LISTS),
+  9: () => seriesOutputs(9, NO_CELLS, RESULT_LISTS),
+  10: () => pictureOutputs(10, WHOLE_CELLS, PICTURE_LISTS),
+  11: () => pictureOutputs(11, DOUBLE_CELLS, PICTURE_LISTS),
+  12: () => pictureOutputs(12, NO_CELLS, PICTURE_LISTS),
 };

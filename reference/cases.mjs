@@ -5,6 +5,7 @@ import { casesOfPictures } from './cases-pictures.mjs';
 import { casesOfEdits } from './cases-edits.mjs';
 import { casesOfPoints } from './cases-points.mjs';
 import { casesOfOutputs } from './cases-outputs.mjs';
+import { casesOfCarries } from './cases-carry.mjs';
 import { casesOfRecords } from './cases-records.mjs';
 import { casesOfPlans } from './cases-plans.mjs';
 import { callWords } from './stream.mjs';
@@ -28,11 +29,13 @@ export const NUMBERS_GIVEN = {
   12: [0, 1, 2, 3, 4, 5, 6, 7, 8, 12],
   13: [0, 14],
   14: [0, 7, 8],
+  15: [0, 1, 2, 3, 4, 5, 6, 7, 8, 12],
+  16: [0, 1, 2, 3, 4, 5, 6, 7, 8, 12],
 };
 
 const CASES = {
-  ...casesOfSmoothing, ...casesOfPictures, ...casesOfEdits, ...casesOfPoints, ...casesOfOutputs, ...casesOfRecords,
-  ...casesOfPlans,
+  ...casesOfSmoothing, ...casesOfPictures, ...casesOfEdits, ...casesOfPoints, ...casesOfOutputs, ...casesOfCarries,
+  ...casesOfRecords, ...casesOfPlans,
 };
 
 // The cases of a call: a note and the call's words.

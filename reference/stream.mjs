@@ -74,7 +74,15 @@ export const CALLS = {
     name: 'write-record', run: writeRecord,
     takes: { ...FIELDS, samples: 'i32s', record: 'u8s' }, prints: ['number', 'position', 'record'],
   },
-  // Later calls of the page go on from 15, so what else the library has begins here.
+  15: {
+    name: 'carry-series', run: calls.carrySeries,
+    takes: { ...SERIES, results: 'i64s', cells: 'i32s' }, prints: ['number', 'position', 'carry', 'cells'],
+  },
+  16: {
+    name: 'carry-picture', run: calls.carryPicture,
+    takes: { ...PICTURE, results: 'i64s', cells: 'i32s' }, prints: ['number', 'position', 'carry', 'cells'],
+  },
+  // Later calls of the page go on from 17, so what else the library has begins here.
   100: {
     name: 'plan', run: calls.planByItself,
     takes: { plan: 'plan' }, prints: ['divisor', 'reach'],

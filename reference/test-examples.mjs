@@ -1,6 +1,6 @@
 // Every example of the requirements, run on the reference.
 import { divisorOf } from './smoothing.mjs';
-import { planByItself, planner, smoothPicture, wholeSeries } from './calls.mjs';
+import { carryPicture, carrySeries, planByItself, planner, smoothPicture, wholeSeries } from './calls.mjs';
 import { readRecord, report, samplesIn } from './record.mjs';
 import { bytesOfHex, edited, numbersOf, outputArgs, plan, same, smoothed, text, work } from './testing.mjs';
 
@@ -23,14 +23,31 @@ function seriesExamples() {
   }
 }
 
-function otherExamples() {
+// The picture of 2 by 2, smoothed, and its whole cells that carry remainders.
+function pictureExample() {
   const five = plan(0, 3, 1, 1);
-  const picture = smoothPicture({
-    across: five, down: five, bound: 1n, width: 2n, height: 2n, samples: Int32Array.of(1, 0, 0, 0),
-    results: work(4), work: work(4),
-  });
+  const sides = { across: five, down: five, bound: 1n, width: 2n, height: 2n };
+  const picture = smoothPicture({ ...sides, samples: Int32Array.of(1, 0, 0, 0), results: work(4), work: work(4) });
   same('picture', [picture.number, picture.results, picture.work], [0, [16, 4, 4, 1], [0, 0, 0, 0]]);
+  const carried = carryPicture({ ...sides, results: picture.results, cells: Int32Array.of(7, 7, 7, 7) });
+  same('picture carried', [carried.number, carried.carry, carried.cells], [0, 0, [0, 0, 0, 1]]);
+}
 
+function carryExamples() {
+  const eight = plan(1, 2, 1, 1);
+  const examples = [
+    [smoothed(eight, [4, 0, 0]).results, 0, [2, 1, 1]],
+    [smoothed(eight, [-4, 0, 0]).results, 0, [-2, -2, 0]],
+    [[7, -1, 5], 3, [0, 0, 1]],
+  ];
+  for (const [results, carry, cells] of examples) {
+    const outcome = carrySeries(outputArgs(eight, 4, results, Int32Array));
+    same(`carried ${text(results)}`, [outcome.number, outcome.position], [0, 0]);
+    same(`carried ${text(results)} carry and cells`, [outcome.carry, outcome.cells], [carry, cells]);
+  }
+}
+
+function otherExamples() {
   const change = edited(plan(1, 1, 0, 1), 9, 4, 3, [0, 0, 9, 0, 0], [0, 9, 9, 9, 0]);
   same('edit', [change.number, change.count, change.samples, change.results],
     [0, 2, [0, 0, 9, 0, 3], [0, 9, 9, 12, 6]]);
@@ -86,6 +103,8 @@ function jobExample() {
 
 export function testExamples() {
   seriesExamples();
+  pictureExample();
+  carryExamples();
   otherExamples();
   planExamples();
   jobExample();

@@ -6,7 +6,7 @@ import {
 } from './smoothing.mjs';
 import { doublesSeries, planByItself, summarySeries } from './calls.mjs';
 import { anyBound, anyPlan, anySamples, chance } from './inputs.mjs';
-import { edited, holds, outputArgs, plan, same, smoothed, valueAt } from './testing.mjs';
+import { edited, holds, outputArgs, plan, same, smoothed, total, valueAt } from './testing.mjs';
 
 function foldByRemainder(n, length) {
   const m = ((n % (2 * length)) + 2 * length) % (2 * length);
@@ -51,8 +51,7 @@ function seriesFacts(chosen, bound, samples) {
   same('one pass at a time', results, onePassAtATime(chosen, samples));
   same('sum of weighted samples', results, weightedSums(chosen, samples));
   same('reversed series', seriesResults(chosen, samples.slice().reverse()), results.slice().reverse());
-  const exact = (list) => list.reduce((total, each) => total + BigInt(each), 0n);
-  same('sum of results', exact(results), exact(samples) * divisorOf(chosen));
+  same('sum of results', total(results), total(samples) * divisorOf(chosen));
   holds('size of results', results.every((each) => Math.abs(each) <= bound * Number(divisorOf(chosen))));
 }
 

@@ -23,6 +23,11 @@ export function holds(name, fact) {
   same(name, fact, true);
 }
 
+// The exact sum of whole numbers.
+export function total(list) {
+  return Array.from(list).reduce((sum, each) => sum + BigInt(each), 0n);
+}
+
 export function tell() {
   console.log(`${passed} passed, ${failed} failed`);
   if (failed > 0) process.exitCode = 1;

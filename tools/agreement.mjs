@@ -127,11 +127,15 @@ function outputInputs({ plan, across, down, bound, width, height, results }) {
   return `${limits} ${wholes(results)}`;
 }
 
-function output(definition, write) {
+function output(definition, write, answered = () => ({})) {
   return (args, out) => {
     const call = `${definition} ${outputInputs(args)} ${write(args.cells)}`;
-    return outcomeIs(call, out, { cells: write(out.cells) });
+    return outcomeIs(call, out, { ...answered(out), cells: write(out.cells) });
   };
+}
+
+function carrying(definition) {
+  return output(definition, wholes, ({ carry }) => ({ carry }));
 }
 
 function summary(definition) {
@@ -189,6 +193,8 @@ const EQUATIONS = [
   [13, programOfRecord, 'program'],
   [1, programOfSeries, 'program'],
   [14, writeRecord],
+  [15, carrying('carrySeries')],
+  [16, carrying('carryPicture')],
   [100, ofPlan('planDivisor', 'divisor'), 'divisor'],
   [100, ofPlan('planReach', 'reach'), 'reach'],
   [101, stretchOf, 'stretch'],
@@ -208,6 +214,7 @@ const OPENED = {
   'Rattle.meaning.specs.Refusals': 'firstOf firstWhere rowAt some planRows sizeRows ifDone ownRows planDivisor planReach',
   'Rattle.meaning.specs.Values':
     'nearest ratio takes doubleRows doublesIn outputRows converted unbeaten summary',
+  'Rattle.meaning.specs.Carry': 'carry carryCell carried',
   'Rattle.meaning.specs.Calls': 'smoothRows smoothed gained editRows countWhere changed editSeries pointRows point',
   'Rattle.meaning.specs.Planner': 'largest radiusFor edgeFor plannerRows planFor',
   'Rattle.meaning.specs.Encoding': 'bytes number text digits decimal',
@@ -226,6 +233,7 @@ const HEAD = [
   'use Rattle.meaning.specs.Refusals.{seriesOf, pictureOf, commonRows}',
   'use Rattle.meaning.specs.Values.{wholeSeries, doublesSeries, summarySeries}',
   'use Rattle.meaning.specs.Values.{wholePicture, doublesPicture, summaryPicture}',
+  'use Rattle.meaning.specs.Carry.{carrySeries, carryPicture}',
   'use Rattle.meaning.specs.Calls.{smoothSeries, smoothPicture}',
   ...Object.entries(OPENED).map(([from, names]) => `use ${from}.{${names.replaceAll(' ', ', ')}}`),
 ];
