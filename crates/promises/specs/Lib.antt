@@ -6,8 +6,9 @@
 --   EditLists      any list of edits, and smoothing beside them
 --   Points         a point
 --   DoublesIn      doubles taken as samples
---   Outputs        putting results out, of any shape and by any conversion
+--   Outputs        putting results out, of any shape and in any form
 --   WholeNumbers   results as whole numbers
+--   Carrying       results as whole numbers that add up
 --   DoublesOut     results as doubles
 --   Summaries      the lowest and the highest
 --   Planner        the planner
@@ -23,6 +24,7 @@ pub mod Points
 pub mod DoublesIn
 pub mod Outputs
 pub mod WholeNumbers
+pub mod Carrying
 pub mod DoublesOut
 pub mod Summaries
 pub mod Planner

@@ -1,8 +1,9 @@
 -- The rows of an output, of any shape: which positions they answer; the results of a series and of a picture are put out exactly where their bounds hold.
 --   Lent s M r n   what rows 8 and 12 ask: results r and n cells as many as the shape has, and no result above M times the divisor
 -- Laws: output-rising, output-numbered; output-lent (rows 1 to 8, and what is lent), output-bounds (the bound, and its product with the divisor); output-position (at 12), output-no-position (else);
--- series-out-allowed, allowed-series-out, series-out-divisor; picture-out-allowed, allowed-picture-out, picture-out-divisor (the divisor is not 0), picture-out-some (there are results).
-use mathlib.Core.Path.{_≡_, refl}
+-- series-out-allowed, allowed-series-out, series-out-divisor; picture-out-allowed, allowed-picture-out, picture-out-divisor (the divisor is not 0), picture-out-some (there are results);
+-- series-smoothed-out, picture-smoothed-out (what a smoothing that is done leaves can be put out).
+use mathlib.Core.Path.{_≡_, refl, sym, _∙_}
 use mathlib.Core.Bool.{Bool, false, _||_}
 use mathlib.Core.List.{List}
 use Prim.Native.Nat.{ℕ, _*_, _≤_, _<_}
@@ -12,11 +13,17 @@ use lib.ListN.{length}
 use lib.IntN.{ℤ, natAbs}
 use borrow.Author.Tests.{ltb-false, le-ltb}
 use Rattle.meaning.specs.Limits.{least, maxBound, maxResult}
-use Rattle.meaning.specs.Extension.{at}
+use Rattle.meaning.specs.Extension.{at, IndexMap}
 use Rattle.meaning.specs.Kernel.{Stage, divisor}
+use Rattle.meaning.specs.Smoothing.{results}
+use Rattle.meaning.specs.Picture.{picture}
 use Rattle.meaning.specs.Refusals.{Answer, Row, firstOf, rowAt, differs, above, Shape, seriesOf, pictureOf, planRows, sizeRows, commonRows}
 use Rattle.meaning.specs.Values.{outputRows}
-use Rattle.meaning.specs.Bounds.{AllowedSeriesOut, AllowedPictureOut, FirstAt}
+use Rattle.meaning.specs.Bounds.{AllowedSeries, AllowedPicture, AllowedSeriesOut, AllowedPictureOut, FirstAt}
+use Rattle.theory.specs.Lists.{sized}
+use Rattle.theory.specs.Passes.{length-results}
+use Rattle.theory.specs.Sizes.{results-size}
+use Rattle.theory.specs.Picture.{length-picture, picture-size}
 use Rattle.theory.specs.Refusals.{done, Off, Numbered, Rising, Unplaced, done-off, off-done}
 use Rattle.theory.specs.ShapeRows.{shape-bounds, shape-off, off-shape, shape-position, shape-no-position}
 use Rattle.theory.specs.Tests.{or-no, no-or, differs-no, no-differs}
@@ -104,3 +111,19 @@ module _ (hs vs : List Stage) (M W H : ℕ) (r : List ℤ) (n : ℕ) where
 
   pub picture-out-some : AllowedPictureOut hs vs M W H r n → 0 < length r
   picture-out-some ok = rw (ok .count) (one-le-mul (ok .common .width .0) (ok .common .height .0))
+
+-- ---- what a smoothing leaves
+pub series-smoothed-out : (φ : IndexMap) (ss : List Stage) {M : ℕ} {f : List ℤ} {nr nw n : ℕ} → AllowedSeries ss M f nr nw → n ≡ length f → AllowedSeriesOut ss M (results φ ss f) n
+series-smoothed-out φ ss {M} {f} ok e = record {
+  common = rw (length-results φ ss f) (ok .common);
+  cells = e ∙ sym (length-results φ ss f);
+  results = λ i l. results-size φ (sized f (λ i l. record { bound = ok .samples i l })) ss .size i .bound;
+}
+
+pub picture-smoothed-out : (φ ψ : IndexMap) (hs vs : List Stage) {M W H : ℕ} {f : List ℤ} {nr nw n : ℕ} → AllowedPicture hs vs M W H f nr nw → n ≡ W * H → AllowedPictureOut hs vs M W H (picture φ ψ hs vs W H f) n
+picture-smoothed-out φ ψ hs vs {M} {W} {H} {f} ok e = record {
+  common = ok .common;
+  count = length-picture φ ψ hs vs W H f;
+  cells = e;
+  results = λ i l. picture-size φ ψ hs vs W H (sized f (λ i l. record { bound = ok .samples i l })) .size i .bound;
+}
