@@ -17,7 +17,7 @@
 --   carry-series-allowed, carry-picture-allowed   it is done exactly where the bounds hold
 --   carry-series-one, carry-picture-one   two outcomes that the contract allows are the same
 use Prim.Native.Nat.{ℕ, suc, _*_, _≤_, _<_}
-use mathlib.Core.Path.{_≡_, refl, sym, ap, ap₂, _∙_}
+use mathlib.Core.Path.{_≡_, sym, ap, ap₂, _∙_}
 use mathlib.Core.Logic.{_≢_}
 use mathlib.Core.List.{List}
 use lib.ListN.{length}
@@ -28,7 +28,7 @@ use denote.Triple.Clauses.{AtExit}
 use borrow.Fn.Kinds.{Dens, resT, endedOf}
 use Rattle.algebra.specs.Sum.{sum}
 use Rattle.meaning.specs.Extension.{at, fold}
-use Rattle.meaning.specs.Kernel.{Stage, divisor}
+use Rattle.meaning.specs.Kernel.{divisor}
 use Rattle.meaning.specs.Smoothing.{listOf}
 use Rattle.meaning.specs.Smoothing as smoothing
 use Rattle.meaning.specs.Picture.{picture}
@@ -41,6 +41,8 @@ use Rattle.theory.specs.HalfSample.{half-sample, half-sample-balanced}
 use Rattle.theory.specs.Lists.{length-listOf, at-listOf}
 use Rattle.theory.specs.Refusals.{ifDone-done, ifDone-refused}
 use Rattle.theory.specs.Totals.{total, total-listOf, results-total, picture-total}
+use Rattle.theory.specs.Passes.{length-results}
+use Rattle.theory.specs.Picture.{length-picture}
 use Rattle.theory.specs.AcceptedOutputs.{series-smoothed-out, picture-smoothed-out}
 use Rattle.theory.specs.Carry.{carry-none, carry-below, carry-divided, carry-near, carry-size, carry-sum, carry-whole}
 use Rattle.plan.specs.declared.Plan.{Plan}
@@ -197,11 +199,33 @@ carry-picture-allowed c = output-picture _ _ _ (stagesOf (across c)) (stagesOf (
 
 -- ---- behind a smoothing
 series-out : {p q : Plan} {M L n nr nw : ℕ} {r f : List ℤ} → p ≡ q → M ≡ L → r ≡ smoothing.results fold (stagesOf q) f → n ≡ length r → AllowedSeries (stagesOf q) L f nr nw → AllowedSeriesOut (stagesOf p) M r n
-series-out p m r n ok = ?
+series-out {q} {f} p m r n ok = rw (p, m, r) (series-smoothed-out fold (stagesOf q) ok (n ∙ ap length r ∙ length-results fold (stagesOf q) f))
 
 pub carried-smooth-series : (s : series.SeriesCall) (c : SeriesCall) → series.number s ≡ 0 → plan c ≡ series.plan s → ofSeries c .out .bound ≡ series.bound s → ofSeries c .out .results ≡ series.resultsLeft s → length (ofSeries c .out .cells) ≡ length (ofSeries c .out .results)
     → (ofSeries c .out .answer .number ≡ 0) × (ofSeries c .carry ≡ 0) × (total (ofSeries c .out .left) ≡ total (series.samples s))
-carried-smooth-series s c e p m r n = ?
+carried-smooth-series s c e p m r n =
+    let is = r ∙ series.done-whole s e in
+    let done = carry-series-allowed c .1 (series-out p m is n (series.done-allowed s .0 e)) in
+    let (k, t) = carried-series-true c done (series.samples s) (is ∙ ap (λ (q : Plan). smoothing.results fold (stagesOf q) (series.samples s)) (sym p)) in
+    (done, k, t)
+
+picture-out : {p q t u : Plan} {M L W X H Y n nr nw : ℕ} {r f : List ℤ} → p ≡ q → t ≡ u → M ≡ L → W ≡ X → H ≡ Y → r ≡ picture fold fold (stagesOf q) (stagesOf u) X Y f → n ≡ length r → AllowedPicture (stagesOf q) (stagesOf u) L X Y f nr nw
+    → AllowedPictureOut (stagesOf p) (stagesOf t) M W H r n
+picture-out {q} {u} {X} {Y} {f} p t m w h r n ok = rw (p, t, m, w, h, r) (picture-smoothed-out fold fold (stagesOf q) (stagesOf u) ok (n ∙ ap length r ∙ length-picture fold fold (stagesOf q) (stagesOf u) X Y f))
+
+picture-is : {p q t u : Plan} {W X H Y : ℕ} (f : List ℤ) → p ≡ q → t ≡ u → W ≡ X → H ≡ Y → picture fold fold (stagesOf q) (stagesOf u) X Y f ≡ picture fold fold (stagesOf p) (stagesOf t) W H f
+picture-is f p t w h = rw (p, t, w, h)
+
+pub carried-smooth-picture : (s : pictures.PictureCall) (c : PictureCall) → pictures.number s ≡ 0 → across c ≡ pictures.across s → down c ≡ pictures.down s → ofPicture c .out .bound ≡ pictures.bound s → width c ≡ pictures.width s → height c ≡ pictures.height s
+    → ofPicture c .out .results ≡ pictures.resultsLeft s → length (ofPicture c .out .cells) ≡ length (ofPicture c .out .results)
+    → (ofPicture c .out .answer .number ≡ 0) × (ofPicture c .carry ≡ 0) × (total (ofPicture c .out .left) ≡ total (pictures.samples s))
+carried-smooth-picture s c e p t m w h r n =
+    let f = pictures.samples s in
+    let ok = pictures.picture-allowed s .0 e in
+    let is = r ∙ pictures.picture-whole s e in
+    let done = carry-picture-allowed c .1 (picture-out p t m w h is n ok) in
+    let (k, x) = carried-picture-true c done f (ok .count ∙ ap₂ _*_ (sym w) (sym h)) (is ∙ picture-is f p t w h) in
+    (done, k, x)
 
 -- ---- two calls
 abbrev back : Answer → ℕ → answered.Carried

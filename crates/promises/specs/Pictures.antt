@@ -12,6 +12,7 @@
 --   picture-unchanged  a refused call leaves every cell as it was
 --   picture-left       one that is done leaves zeros in work
 --   picture-length     and as many results as there are cells
+--   picture-whole      they are the definition's
 --   picture-results    its result at column x of row y is the convolution of the extension with the kernel across over the kernel down
 --   picture-turned     and over the kernel down over the kernel across, which is the same
 --   picture-rows-first, picture-columns-first   so it is what smoothing every row by the plan across and then every column by the plan down leaves, or in the other order
@@ -148,20 +149,20 @@ module _ (c : PictureCall) where
 
   -- a call that is done
   module _ (e : number c ≡ 0) where
-    whole : resultsLeft c ≡ picture fold fold (stagesAcross c) (stagesDown c) (width c) (height c) (samples c)
-    whole = smooth.whole _ _ _ _ _ _ (c .learnt) e
+    pub picture-whole : resultsLeft c ≡ picture fold fold (stagesAcross c) (stagesDown c) (width c) (height c) (samples c)
+    picture-whole = smooth.whole _ _ _ _ _ _ (c .learnt) e
 
     pub picture-left : workLeft c ≡ zeros (work c)
     picture-left = smooth.left _ _ _ _ _ _ (c .learnt) e
 
     pub picture-length : length (resultsLeft c) ≡ width c * height c
-    picture-length = ap length whole ∙ length-picture _ _ _ _ _ _ _
+    picture-length = ap length picture-whole ∙ length-picture _ _ _ _ _ _ _
 
     module _ {x y : ℕ} (l : x < width c) (m : y < height c) where
       pub picture-results : cell (width c) (resultsLeft c) x y
           ≡ sumWithin (kernels.width (stagesAcross c)) (λ i. kernel (stagesAcross c) i *ℤ sumWithin (kernels.width (stagesDown c)) (λ j. kernel (stagesDown c) j *ℤ sample c (pos x -ℤ i) (pos y -ℤ j)))
       unfolding pixel convolved
-      picture-results = ap (λ (r : List ℤ). cell (width c) r x y) whole ∙ cell-picture _ _ _ _ _ _ _ x y l m
+      picture-results = ap (λ (r : List ℤ). cell (width c) r x y) picture-whole ∙ cell-picture _ _ _ _ _ _ _ x y l m
 
       pub picture-turned : cell (width c) (resultsLeft c) x y
           ≡ sumWithin (kernels.width (stagesDown c)) (λ j. kernel (stagesDown c) j *ℤ sumWithin (kernels.width (stagesAcross c)) (λ i. kernel (stagesAcross c) i *ℤ sample c (pos x -ℤ i) (pos y -ℤ j)))
@@ -169,17 +170,17 @@ module _ (c : PictureCall) where
       picture-turned = picture-results ∙ sym (convolved-swap (stagesDown c) (stagesAcross c) (λ j i. sample c i j) (pos y) (pos x))
 
     pub picture-rows-first : resultsLeft c ≡ pictures.down (smoothing.results fold (stagesDown c)) (width c) (height c) (pictures.across (smoothing.results fold (stagesAcross c)) (width c) (height c) (samples c))
-    picture-rows-first = whole ∙ sym (rows-first half-sample half-sample _ _ _ _ _)
+    picture-rows-first = picture-whole ∙ sym (rows-first half-sample half-sample _ _ _ _ _)
 
     pub picture-columns-first : resultsLeft c ≡ pictures.across (smoothing.results fold (stagesAcross c)) (width c) (height c) (pictures.down (smoothing.results fold (stagesDown c)) (width c) (height c) (samples c))
-    picture-columns-first = whole ∙ sym (columns-first half-sample half-sample _ _ _ _ _)
+    picture-columns-first = picture-whole ∙ sym (columns-first half-sample half-sample _ _ _ _ _)
 
     pub picture-half : (i : ℕ) → (natAbs (at (pictures.across (smoothing.results fold (stagesAcross c)) (width c) (height c) (samples c)) i) ≤ bound c * divisor (stagesAcross c))
         × (natAbs (at (resultsLeft c) i) ≤ bound c * (divisor (stagesAcross c) * divisor (stagesDown c)))
     picture-half i =
         let f = sized (samples c) (λ i l. record { bound = picture-allowed .0 e .samples i l }) in (
           across-size _ (λ g k. results-size fold k (stagesAcross c)) (width c) (height c) f .size i .bound,
-          subst (λ (r : List ℤ). natAbs (at r i) ≤ bound c * (divisor (stagesAcross c) * divisor (stagesDown c))) (sym whole) (picture-size fold fold (stagesAcross c) (stagesDown c) (width c) (height c) f .size i .bound),
+          subst (λ (r : List ℤ). natAbs (at r i) ≤ bound c * (divisor (stagesAcross c) * divisor (stagesDown c))) (sym picture-whole) (picture-size fold fold (stagesAcross c) (stagesDown c) (width c) (height c) f .size i .bound),
         )
 
 -- ---- two calls
