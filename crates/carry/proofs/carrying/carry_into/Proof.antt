@@ -46,25 +46,29 @@ module _ (c : tie.After-sum Inv-loop μ-loop) where
   abbrev n : ℕ
   n = c .before .before .loop .n
 
+  -- the code's
+  abbrev k : ℕ
+  k = c .before .before .loop .carry
+
   ready : Quotient (at r n) d
   ready = c .before .before .before .pre .each n (omega arith)
 
-  carry-fits : SFits w64 (pos (c .before .before .loop .carry))
+  carry-fits : SFits w64 (pos k)
   carry-fits = rw (c .before .before .loop .inv .2) (record { sfits = omega (arith, carry-below (ready .divisor .0) r n, ready .divisor .1) })
 
   result-is : toZ w64 (ofZ w64 (at r n)) ≡ at r n
   result-is = toZ-ofZ (sfits-of (c .sum .given))
 
-  carry-is : toZ w64 (c .before .before .loop .carry) ≡ pos (carry d r n)
+  carry-is : toZ w64 k ≡ pos (carry d r n)
   carry-is = toZ-pos w64 (carry-fits .sfits) ∙ ap pos (c .before .before .loop .inv .2)
 
-  whole : toZ w64 (ofZ w64 (at r n)) +ℤ toZ w64 (c .before .before .loop .carry) ≡ at r n +ℤ pos (carry d r n)
+  whole : toZ w64 (ofZ w64 (at r n)) +ℤ toZ w64 k ≡ at r n +ℤ pos (carry d r n)
   whole = ap₂ _+ℤ_ result-is carry-is
 
-  added : SFits w64 (toZ w64 (ofZ w64 (at r n)) +ℤ toZ w64 (c .before .before .loop .carry))
+  added : SFits w64 (toZ w64 (ofZ w64 (at r n)) +ℤ toZ w64 k)
   added = rw whole (sum-fits r n ready)
 
-  sum-is : toZ w64 (ofZ w64 (toZ w64 (ofZ w64 (at r n)) +ℤ toZ w64 (c .before .before .loop .carry))) ≡ at r n +ℤ pos (carry d r n)
+  sum-is : toZ w64 (ofZ w64 (toZ w64 (ofZ w64 (at r n)) +ℤ toZ w64 k)) ≡ at r n +ℤ pos (carry d r n)
   sum-is = toZ-ofZ added ∙ whole
 
 cast-sum : tie.Need-cast-sum Inv-loop μ-loop
