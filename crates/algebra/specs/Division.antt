@@ -2,7 +2,7 @@
 --   Divided z m q r   z is m q + r, and r is below m; so 0 < m, and r is never negative
 -- A remainder defined elsewhere is tied by divided-pos and divided-negsuc, and then known by divided-unique.
 -- Laws: divided-pos, divided-negsuc, divided-shift, divided-unique;
--- floor-divided, floor-unique, floor-lower, floor-upper, floor-mono.
+-- floor-unique, floor-lower, floor-upper, floor-mono.
 use mathlib.Core.Path.{_≡_, refl, ap}
 use Prim.Native.Nat.{ℕ, suc, _+_, _*_, _-_, _/_, _%_, _<_}
 use native.Mathlib.Nat.{div-add-mod', mod-lt, lt-of-mul-lt-mul-left}
@@ -46,7 +46,7 @@ divided-unique {z} {m} {p} {q} {r} {s} d e =
     same = ≤ℤ-antisym (quotient-mono d e (≤ℤ-refl z)) (quotient-mono e d (≤ℤ-refl z))
 
 -- ---- the floor
-pub floor-divided : (z : ℤ) (m : ℕ) → 0 < m → (r : ℕ) × Divided z m (shrZ z m) r
+floor-divided : (z : ℤ) (m : ℕ) → 0 < m → (r : ℕ) × Divided z m (shrZ z m) r
 floor-divided (pos a) m h = (a % m, divided-pos a m h)
 floor-divided (negsuc a) m h = (m - suc (a % m), divided-negsuc a m h)
 

@@ -40,6 +40,8 @@ data Example : Type 0 where
   carries : List Stage → List ℤ → ℕ → List ℤ → Example
   -- plans across and down, width, height, samples; last carry, cells
   carriesRaster : List Stage → List Stage → ℕ → ℕ → List ℤ → ℕ → List ℤ → Example
+  -- plan, results; number, position
+  uncarried : List Stage → List ℤ → ℕ → ℕ → Example
   -- bound, doubles, samples; number, position, samples afterwards
   taken : ℕ → List Float → List ℤ → ℕ → ℕ → List ℤ → Example
   -- plan, results; lowest and its index, highest and its index
@@ -60,7 +62,7 @@ data Example : Type 0 where
 abbrev done : Answer
 done = record { number = 0; position = 0 }
 
--- The bound is 9. Results to be written, work and cells are lent with the samples in them; an edit's results, and those put out, are the smoothing.
+-- The bound is 9, of refused outputs 1. Results to be written, work and cells are lent with the samples in them, where no samples are given with the results; an edit's results, and those put out of samples, are the smoothing.
 abbrev Holds : Example → Type 0
 Holds (series ss f r) = smoothSeries fold ss 9 f f f ≡ record { answer = done; results = r; work = zeros f }
 Holds (raster hs vs W H f r) = smoothPicture fold fold hs vs 9 W H f f f ≡ record { answer = done; results = r; work = zeros f }
@@ -69,6 +71,7 @@ Holds (planner s K b r a) = planFor s K b ≡ record { answer = done; radius = r
 Holds (whole ss f c) = wholeSeries ss 9 (results fold ss f) f ≡ record { answer = done; cells = c }
 Holds (carries ss r k c) = carrySeries ss 9 r r ≡ record { answer = done; carry = k; cells = c }
 Holds (carriesRaster hs vs W H f k c) = carryPicture hs vs 9 W H (picture fold fold hs vs W H f) f ≡ record { answer = done; carry = k; cells = c }
+Holds (uncarried ss r n p) = carrySeries ss 1 r r ≡ record { answer = record { number = n; position = p }; carry = 0; cells = r }
 Holds (taken M xs f n p g) = doublesIn M xs f ≡ record { answer = record { number = n; position = p }; cells = g }
 Holds (summed ss r l i h j) = summarySeries ss 9 r ≡ record { answer = done; lowest = l; highest = h; lowestAt = i; highestAt = j }
 Holds (refused hs vs W H r n p) = wholePicture hs vs 1 W H r r ≡ record { answer = record { number = n; position = p }; cells = r }
@@ -113,7 +116,7 @@ examples =
     ∷ 0x05 ∷ 0x00 ∷ 0x04 ∷ 0x00 ∷ 0x00 ∷ 0x00 ∷ 0x08
     ∷ 0x06 ∷ 0x00 ∷ 0x0C ∷ 0x00 ∷ 0x00 ∷ 0x00 ∷ 0x08 ∷ 0x00 ∷ 0x00 ∷ 0x00 ∷ 0x00 ∷ 0x00 ∷ 0x00 ∷ 0x00 ∷ 0x00 ∷ [])
     "smooth 0 8 3\n0 32\n1 24\n2 8\n"
-    -- not of the page: without them a picture of one plan, columns read for rows, a reach of r + 1 always, a fraction taken and the last index of equals would pass
+    -- not of the page: without them a picture of one plan, columns read for rows, a reach of r + 1 always, a fraction taken, the last index of equals, a carry that is dropped and one of a refused call would pass
     ∷ raster (plan 0 3 1 1) (plan 1 1 0 1) 2 2 (plus (1 ∷ 0 ∷ 0 ∷ 0 ∷ [])) (plus (8 ∷ 2 ∷ 4 ∷ 1 ∷ []))
     ∷ raster (plan 1 2 1 1) (plan 0 3 1 1) 3 2 (plus (9 ∷ 0 ∷ 0 ∷ 0 ∷ 0 ∷ 1 ∷ [])) (plus (145 ∷ 111 ∷ 40 ∷ 40 ∷ 39 ∷ 25 ∷ []))
     ∷ reached (plan 1 1 0 2) 2
@@ -132,6 +135,7 @@ examples =
     ∷ carries (plan 1 2 1 1) (results fold (plan 1 2 1 1) (minus (4 ∷ 0 ∷ 0 ∷ []))) 0 (minus (2 ∷ 2 ∷ 0 ∷ []))
     ∷ carries (plan 1 2 1 1) (pos 7 ∷ negsuc 0 ∷ pos 5 ∷ []) 3 (plus (0 ∷ 0 ∷ 1 ∷ []))
     ∷ carriesRaster (plan 0 3 1 1) (plan 0 3 1 1) 2 2 (plus (1 ∷ 0 ∷ 0 ∷ 0 ∷ [])) 0 (plus (0 ∷ 0 ∷ 0 ∷ 1 ∷ []))
+    ∷ uncarried (plan 1 2 1 1) (plus (7 ∷ 10 ∷ [])) 12 1
     ∷ unplanned 25601 3 256 3
     ∷ unplanned 25601 3 16 13
     ∷ []
@@ -148,4 +152,4 @@ unfolding examples sumWithin emod reflect fold ext tap passAt kernel width reach
 examples-hold =
     refl and refl and refl and refl and refl and refl and refl
     and refl and refl and refl and refl and refl
-    and refl and refl and refl and refl and refl and refl and refl and refl and refl and refl and refl and refl and refl and refl and refl and refl and refl and refl and refl and refl and refl and refl and refl and refl and refl and refl and refl and none
+    and refl and refl and refl and refl and refl and refl and refl and refl and refl and refl and refl and refl and refl and refl and refl and refl and refl and refl and refl and refl and refl and refl and refl and refl and refl and refl and refl and refl and none

@@ -6,16 +6,17 @@
 --   ofSeries c, ofPicture c   all that a call was given, answered and left, as a Carrying: what Outputs says holds of both
 --   Run d r k x        carries k from 0 on, of which each result of r and the carry before it are d times its cell of x and the carry behind it
 --   carried-none       a refused call answers carry 0
--- Where it is done:
+--   carried-answers, carried-leaves, carried-carries   what the contract says of the answer, the cells left and the carry
+--   carry-series-allowed, carry-picture-allowed   a call is done exactly where the bounds hold
+--   carried-smooth-series, carried-smooth-picture   behind a smoothing that is done, under its plan and bound and with as many cells: the call is done, the last carry is 0, and the cells' sum is the samples'
+--   carry-series-one, carry-picture-one   two outcomes that the contract allows are the same
+-- Where a call is done:
 --   carried-run        there are such carries, each from 0 to the divisor less one, and the last is answered
 --   carried-length     there are as many cells as results
 --   carried-near       a cell is less than 1 from its quotient: times the divisor, it is less than the divisor from its result
 --   carried-size       and has size at most the bound
 --   carried-total      the divisor times the cells' sum, and the last carry, are the results' sum
 --   carried-series-true, carried-picture-true   where the results are a smoothing of some samples under the plan, or the plans, the last carry is 0 and the cells' sum is the samples'
---   carried-smooth-series, carried-smooth-picture   so behind a smoothing that is done, under its plan and bound: the call is done, the last carry is 0, and the cells' sum is the samples'
---   carry-series-allowed, carry-picture-allowed   it is done exactly where the bounds hold
---   carry-series-one, carry-picture-one   two outcomes that the contract allows are the same
 use Prim.Native.Nat.{ℕ, suc, _*_, _≤_, _<_}
 use mathlib.Core.Path.{_≡_, sym, ap, ap₂, _∙_}
 use mathlib.Core.Logic.{_≢_}

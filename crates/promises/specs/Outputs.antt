@@ -3,6 +3,7 @@
 --                    which is not 0 where the call is done, and the results
 --   each g           what makes each cell of its result alone, by g
 --   seriesOutput, pictureOutput   such an outcome, of a series and of a picture;  convertedSeries, convertedPicture  of one that makes each cell by g
+--   converted-answers, converted-leaves   what such a one's contract says of the answer and the cells left
 --   rows             its rows of the table of numbers
 --   output-lowest    the number is 0, or that of a row that applies, and then the lowest of those
 --   output-done      it is 0 exactly where no row applies

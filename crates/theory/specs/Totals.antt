@@ -2,7 +2,7 @@
 --   total f   the sum of a list's elements
 -- A kernel weighs the row moved on by m as the row moved back by m. Over a Balanced map the two together sum to twice the samples,
 -- for what leaves at the ends is what enters there. Of a Folding only `here` is needed.
--- Laws: total-listOf, total-cells (row after row); convolved-total (of any N samples g), results-total, picture-total.
+-- Laws: total-listOf; convolved-total (of any N samples g), results-total, picture-total.
 use mathlib.Core.Path.{_≡_, refl, sym, _∙_, ap, ap₂}
 use mathlib.Core.List.{List}
 use Prim.Native.Nat.{ℕ, zero, suc, _+_, _*_}
@@ -29,7 +29,8 @@ total f = sum (length f) (at f)
 pub total-listOf : (n : ℕ) (g : ℕ → ℤ) → total (listOf n g) ≡ sum n g
 total-listOf n g = ap (λ k. sum k (at (listOf n g))) (length-listOf n g) ∙ sum-ext n (at-listOf n g)
 
-pub total-cells : (W H : ℕ) (f : List ℤ) → length f ≡ W * H → total f ≡ sum H (λ y. sum W (λ x. cell W f x y))
+-- row after row
+total-cells : (W H : ℕ) (f : List ℤ) → length f ≡ W * H → total f ≡ sum H (λ y. sum W (λ x. cell W f x y))
 total-cells W H f e = ap (λ k. sum k (at f)) (e ∙ mul-comm W H) ∙ sum-blocks H W (at f)
 
 -- ---- N places of a row, moved
