@@ -1,4 +1,4 @@
--- Whole numbers out that add up: what a cell leaves of its quotient is carried on to the next.
+-- Whole numbers out that add up: what a cell leaves of its quotient is carried on to the next. What stands in quotes is Ticket 1 of document 02.
 --   carry d r n       the carry before cell n of the results r over d: 0 before the first; behind the last it is the one that is answered
 --   carryCell d r n   cell n
 --   Carried           the answer, the last carry, and the cells afterwards

@@ -6,7 +6,7 @@
 --   Picture     results of a picture
 --   Refusals    the table of numbers, and the lowest that applies
 --   Values      doubles in; whole numbers, doubles and summary out
---   Carry       whole numbers out that add up
+--   Carry       whole numbers out that add up; its page is document 02
 --   Calls       smoothing a series and a picture, an edit, a point: what each answers and leaves
 --   Bounds      the table of bounds as inequalities, beside the rows
 --   Planner     from standard deviation to radius and edge weight
