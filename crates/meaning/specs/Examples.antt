@@ -1,4 +1,4 @@
--- Document 01's examples as one table under one theorem, the marked ones first; and more. Plans are (r, b, a, K).
+-- Document 01's examples as one table under one theorem, the marked ones first; document 02's; and more. Plans are (r, b, a, K).
 --   Example         a call's inputs, and last what must come out
 --   Holds e         that is the call's whole outcome, the content of every slice with it; of `divided`, `reached` and `bounded`, the divisor, the reach, and rows 1 to 8
 --   examples-hold   every row of the table holds
@@ -20,7 +20,7 @@ use Rattle.meaning.specs.Refusals.{Answer, firstOf, firstWhere, rowAt, s
 use Rattle.meaning.specs.Values.{nearest, ratio, takes, doubleRows, doublesIn, outputRows, converted, unbeaten, summary, wholeSeries, wholePicture, summarySeries}
 use Rattle.meaning.specs.Carry.{carry, carryCell, carried, carrySeries, carryPicture}
 use Rattle.meaning.specs.Calls.{smoothRows, smoothed, smoothSeries, smoothPicture, gained, editRows, countWhere, changed, editSeries}
-use Rattle.meaning.specs.Planner.{largest, radiusFor, edgeFor, plannerRows, planFor}
+use Rattle.meaning.specs.Planner.{largest, radiusFor, nearestDown, edgeFor, widened, stageFor, plannerRows, planFor}
 use Rattle.meaning.specs.Encoding.{bytes, number, text, digits, decimal}
 use Rattle.meaning.specs.Record.{sampleAt, stretch, samplesOf, begins, reading, readRecord}
 use Rattle.meaning.specs.Program.{firstLine, resultLines, report, program}
@@ -116,7 +116,9 @@ examples =
     ∷ 0x05 ∷ 0x00 ∷ 0x04 ∷ 0x00 ∷ 0x00 ∷ 0x00 ∷ 0x08
     ∷ 0x06 ∷ 0x00 ∷ 0x0C ∷ 0x00 ∷ 0x00 ∷ 0x00 ∷ 0x08 ∷ 0x00 ∷ 0x00 ∷ 0x00 ∷ 0x00 ∷ 0x00 ∷ 0x00 ∷ 0x00 ∷ 0x00 ∷ [])
     "smooth 0 8 3\n0 32\n1 24\n2 8\n"
-    -- not of the page: without them a picture of one plan, columns read for rows, a reach of r + 1 always, a fraction taken, the last index of equals, a carry that is dropped and one of a refused call would pass
+    -- document 02's
+    ∷ planner 500 4 16 3 13
+    -- of no page: without them a picture of one plan, columns read for rows, a reach of r + 1 always, a fraction taken, the last index of equals, a carry that is dropped and one of a refused call, a planner's half going up and an edge weight of b would pass
     ∷ raster (plan 0 3 1 1) (plan 1 1 0 1) 2 2 (plus (1 ∷ 0 ∷ 0 ∷ 0 ∷ [])) (plus (8 ∷ 2 ∷ 4 ∷ 1 ∷ []))
     ∷ raster (plan 1 2 1 1) (plan 0 3 1 1) 3 2 (plus (9 ∷ 0 ∷ 0 ∷ 0 ∷ 0 ∷ 1 ∷ [])) (plus (145 ∷ 111 ∷ 40 ∷ 40 ∷ 39 ∷ 25 ∷ []))
     ∷ reached (plan 1 1 0 2) 2
@@ -136,6 +138,9 @@ examples =
     ∷ carries (plan 1 2 1 1) (pos 7 ∷ negsuc 0 ∷ pos 5 ∷ []) 3 (plus (0 ∷ 0 ∷ 1 ∷ []))
     ∷ carriesRaster (plan 0 3 1 1) (plan 0 3 1 1) 2 2 (plus (1 ∷ 0 ∷ 0 ∷ 0 ∷ [])) 0 (plus (0 ∷ 0 ∷ 0 ∷ 1 ∷ []))
     ∷ uncarried (plan 1 2 1 1) (plus (7 ∷ 10 ∷ [])) 12 1
+    ∷ planner 300 1 16 4 10
+    ∷ planner 100 2 1 0 0
+    ∷ planner 316 1 16 5 0
     ∷ unplanned 25601 3 256 3
     ∷ unplanned 25601 3 16 13
     ∷ []
@@ -148,8 +153,8 @@ data Every : List Example → Type 0 where
 examples-hold : Every examples
 unfolding examples sumWithin emod reflect fold ext tap passAt kernel width reach tapSum divisor listOf convolved result results weight near pixel grid picture
     firstOf firstWhere rowAt some planRows sizeRows ifDone ownRows planDivisor planReach nearest ratio takes doubleRows doublesIn unbeaten summary ofInt div toSigned round size units odd span climb trailingZeros outputRows converted carry carryCell carried smoothRows smoothed gained editRows countWhere changed editSeries
-    largest radiusFor edgeFor plannerRows planFor bytes number text digits decimal sampleAt stretch samplesOf begins reading readRecord firstLine resultLines report program
+    largest radiusFor nearestDown edgeFor widened stageFor plannerRows planFor bytes number text digits decimal sampleAt stretch samplesOf begins reading readRecord firstLine resultLines report program
 examples-hold =
     refl and refl and refl and refl and refl and refl and refl
     and refl and refl and refl and refl and refl
-    and refl and refl and refl and refl and refl and refl and refl and refl and refl and refl and refl and refl and refl and refl and refl and refl and refl and refl and refl and refl and refl and refl and refl and refl and refl and refl and refl and refl and none
+    and refl and refl and refl and refl and refl and refl and refl and refl and refl and refl and refl and refl and refl and refl and refl and refl and refl and refl and refl and refl and refl and refl and refl and refl and refl and refl and refl and refl and refl and refl and refl and refl and none

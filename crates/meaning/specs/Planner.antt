@@ -1,14 +1,21 @@
--- From a standard deviation of s hundredths to radius and edge weight, for K passes with inner weight b; Q is 10,000 K.
+-- From a standard deviation of s hundredths to radius and edge weight, for K passes with inner weight b; Q is 10,000 K. Beside document 01 its page is document 02.
 --   largest n t         the largest of 0 .. n where the test t is true; 0 where there is none
---   radiusFor s Q       the radius
---   edgeFor s Q b r     the edge weight at radius r: "the survey's fractional edge weight over b, rounded down"
+--   radiusFor s Q       the original radius
+--   edgeOver s Q b r    the survey's value at radius r, its edge weight over b, is this over ..
+--   edgeUnder s Q r     .. this
+--   nearestDown n d     n over d to the nearest whole number, a half down
+--   edgeFor s Q b r     the edge weight at radius r, from 0 to b
+--   originalFor s Q b   one pass of the original radius and the edge weight there
+--   widened t           the stage t; where its edge weight is its inner weight, one radius more and no edge, which are the same taps
+--   stageFor s Q b      one pass of the plan found
 --   plannerRows s K b   the rows of the table of numbers
 --   planFor s K b       the call's outcome, a Planned
 use Prim.Native.Nat.{ℕ, zero, suc, _+_, _-_, _*_, _/_}
 use mathlib.Core.Bool.{Bool, cond}
 use mathlib.Core.List.{List, [], _∷_}
-use lib.Dec.{leb, ltb}
+use lib.Dec.{leb, ltb, eqb}
 use Rattle.meaning.specs.Limits.{least, maxPasses, maxRadius, maxInner, maxSigma}
+use Rattle.meaning.specs.Kernel.{Stage}
 use Rattle.meaning.specs.Refusals.{Answer, Row, _when_, firstOf, outside, ifDone}
 
 unfoldable pub largest : ℕ → (ℕ → Bool) → ℕ
@@ -19,9 +26,29 @@ largest (suc n) test = cond (test (suc n)) (suc n) (largest n test)
 unfoldable pub radiusFor : ℕ → ℕ → ℕ
 radiusFor s Q = largest s (λ r. leb (r * (r + 1) * Q) (3 * (s * s)))
 
--- "a is the largest whole number not above b(2r+1)(3s² - r(r+1)Q) / (6((r+1)²Q - s²))"
+-- "b(2r+1)(3s² - r(r+1)Q) / (6((r+1)²Q - s²))", "the survey's fractional edge weight over b"
+abbrev pub edgeOver : ℕ → ℕ → ℕ → ℕ → ℕ
+edgeOver s Q b r = b * (2 * r + 1) * (3 * (s * s) - r * (r + 1) * Q)
+
+abbrev pub edgeUnder : ℕ → ℕ → ℕ → ℕ
+edgeUnder s Q r = 6 * ((r + 1) * (r + 1) * Q - s * s)
+
+unfoldable pub nearestDown : ℕ → ℕ → ℕ
+nearestDown n d = (2 * n + d - 1) / (2 * d)
+
+-- "take the whole number nearest the survey's value, a half going down"
 unfoldable pub edgeFor : ℕ → ℕ → ℕ → ℕ → ℕ
-edgeFor s Q b r = b * (2 * r + 1) * (3 * (s * s) - r * (r + 1) * Q) / (6 * ((r + 1) * (r + 1) * Q - s * s))
+edgeFor s Q b r = nearestDown (edgeOver s Q b r) (edgeUnder s Q r)
+
+abbrev pub originalFor : ℕ → ℕ → ℕ → Stage
+originalFor s Q b = let r = radiusFor s Q in record { radius = r; inner = b; edge = edgeFor s Q b r }
+
+-- "if that gives b, answer radius r+1 and edge weight 0, which is the same kernel"
+unfoldable pub widened : Stage → Stage
+widened t = cond (eqb (t .edge) (t .inner)) (record { radius = t .radius + 1; inner = t .inner; edge = 0 }) t
+
+unfoldable pub stageFor : ℕ → ℕ → ℕ → Stage
+stageFor s Q b = widened (originalFor s Q b)
 
 -- "Refusals: 1, 3, 13, 15"
 unfoldable pub plannerRows : ℕ → ℕ → ℕ → List Row
@@ -29,7 +56,7 @@ plannerRows s K b =
     (1 when outside least maxPasses K)
     ∷ (3 when outside least maxInner b)
     ∷ (13 when outside least maxSigma s)
-    ∷ (15 when ltb maxRadius (radiusFor s (10000 * K)))
+    ∷ (15 when ltb maxRadius (stageFor s (10000 * K) b .radius))
     ∷ []
 
 pub record Planned : Type 0 where
@@ -40,7 +67,6 @@ pub record Planned : Type 0 where
 -- "then r and a are given as 0"
 unfoldable pub planFor : ℕ → ℕ → ℕ → Planned
 planFor s K b =
-    let Q = 10000 * K in
-    let r = radiusFor s Q in
+    let stage = stageFor s (10000 * K) b in
     let answer = firstOf (plannerRows s K b) in
-    record { answer = answer; radius = ifDone answer r 0; edge = ifDone answer (edgeFor s Q b r) 0 }
+    record { answer = answer; radius = ifDone answer (stage .radius) 0; edge = ifDone answer (stage .edge) 0 }
