@@ -2,7 +2,7 @@
 --   sumWithin R f  f summed over every whole m with |m| ≤ R
 --   Beyond w f     f is 0 farther out than w
 -- Laws: within-ext, within-halves, within-none, within-const, within-+, within-*, within-swap, within-exchange, within-sum, within-neg;
--- within-interval; beyond-*, within-step, within-shift;
+-- within-interval; beyond-*, within-wide, within-step, within-shift;
 -- within-abs, within-weighted, within-nonneg, within-positive.
 use mathlib.Core.Path.{_≡_, refl, sym, _∙_, ap, ap₂}
 use Prim.Native.Nat.{ℕ, zero, suc, _+_, _*_, _≤_, _<_}
@@ -108,7 +108,7 @@ within-interval (suc R) c f =
 pub beyond-* : {w : ℕ} {f : ℤ → ℤ} (g : ℤ → ℤ) → Beyond w f → Beyond w (λ m. f m *ℤ g m)
 beyond-* g h m l = *ℤ-zero-l (g m) (h m l)
 
-within-wide : (w R : ℕ) (f : ℤ → ℤ) → w ≤ R → Beyond w f → sumWithin R f ≡ sumWithin w f
+pub within-wide : (w R : ℕ) (f : ℤ → ℤ) → w ≤ R → Beyond w f → sumWithin R f ≡ sumWithin w f
 within-wide w R f l h =
     within-halves R f
     ∙ ap₂ _+ℤ_ (sum-wide (suc w) (suc R) (λ i. f (pos i)) (omega arith) (λ i t. h (pos i) t)) (sum-wide w R (λ i. f (negsuc i)) l (λ i t. h (negsuc i) (omega arith)))

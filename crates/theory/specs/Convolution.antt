@@ -1,5 +1,5 @@
 -- The taps of a pass, and the kernel of all passes, over a row e without ends.
--- Laws: passAt-ext, passAt-swap, tap-sum (the taps of a pass); convolved-ext, convolved-none, convolved-cons (a stage in front is one pass more),
+-- Laws: passAt-ext, passAt-const, passAt-swap, tap-sum (the taps of a pass); convolved-ext, convolved-none, convolved-cons (a stage in front is one pass more),
 -- passAt-one (one stage is one pass), convolved-append; convolved-const, convolved-+, convolved-*, convolved-sum, convolved-swap;
 -- convolved-forward, convolved-backward (a row that goes on alike around n and p), convolved-nonneg;
 -- kernel-append (of stages one after the other: the two kernels' convolution), kernel-sum, kernel-pairs (what pairs of opposite offsets weigh).
@@ -23,7 +23,7 @@ pub passAt-ext : (s : Stage) {e g : ℤ → ℤ} → ((x : ℤ) → e x ≡ g x)
 unfolding passAt
 passAt-ext s h n = within-ext _ (λ j l. ap (λ z. tap s j *ℤ z) (h (n -ℤ j)))
 
-passAt-const : (s : Stage) (c n : ℤ) → passAt s (λ x. c) n ≡ pos (tapSum s) *ℤ c
+pub passAt-const : (s : Stage) (c n : ℤ) → passAt s (λ x. c) n ≡ pos (tapSum s) *ℤ c
 unfolding passAt tapSum
 passAt-const s c n = tap-split s (λ j. c) ∙ ap (λ z. pos (s .inner) *ℤ z +ℤ pos (s .edge) *ℤ (c +ℤ c)) (within-const (s .radius) c) ∙ rw (rep c) (simp diff (omega linear))
 

@@ -7,6 +7,7 @@
 --   Kernel       symmetric, never negative, 0 beyond the reach
 --   Convolution  a stage in front, stages one after the other; linear; the kernel's sum
 --   Stages       the numbers of stages one after the other, and of K equal ones
+--   SameTaps     stages of one and the same tap row
 --   Reach        where the kernel is above 0
 --   Order        the order of stages does not matter
 --   Moment       variances add
@@ -42,6 +43,7 @@
 --   Farthest     how far an accepted plan reaches at most
 --   Programs     what the program prints
 --   Planner      the planner's rule
+--   Survey       what the survey's edge weight is
 -- A law over an index map φ takes `F : Folding φ`, where it speaks of reach `C : Nearness φ`, and of totals `B : Balanced φ`:
 -- for document 01, half-sample, half-sample-near and half-sample-balanced.
 pub mod Folding
@@ -52,6 +54,7 @@ pub mod Fill
 pub mod Kernel
 pub mod Convolution
 pub mod Stages
+pub mod SameTaps
 pub mod Reach
 pub mod Order
 pub mod Moment
@@ -88,3 +91,4 @@ pub mod Stored
 pub mod Farthest
 pub mod Programs
 pub mod Planner
+pub mod Survey

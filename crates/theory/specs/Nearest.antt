@@ -1,8 +1,11 @@
 -- A quotient to the nearest whole number.
 -- Laws: nearest-below, nearest-above (by quotient and rest: the one below, or from a half on the one above); nearest-size;
--- nearest-nearest (no whole number is nearer), nearest-half (of two as near, the upper).
+-- nearest-nearest (no whole number is nearer), nearest-half (of two as near, the upper);
+-- down-nearest, down-half (the same of a half going down: of two as near, the lower), down-most.
 use Prim.Native.Nat.{ℕ, zero, suc, _+_, _*_, _-_, _≤_, _<_}
 use mathlib.Core.Path.{_≡_, refl, sym}
+use native.Mathlib.Nat.{le-refl, mul-le-mul-right, le-div-iff-mul-le, div-lt-iff-lt-mul}
+use native.Mathlib.Decide.{decLt}
 use native.Mathlib.Omega.{arith}
 use lib.IntN.{ℤ, pos, negsuc, negℤ, natAbs, _+ℤ_, _-ℤ_, _*ℤ_, +ℤ-idr}
 use lib.Signed.{_≤ℤ_, _<ℤ_, ≤ℤ-refl}
@@ -13,7 +16,9 @@ use Rattle.algebra.specs.Size.{of-abs}
 use Rattle.algebra.specs.Division.{Divided, floor-unique, floor-lower, floor-upper, floor-mono}
 use Rattle.algebra.specs.Solver.{ring, _≗_}
 use Rattle.algebra.specs.Expression.{_⊕_, _⊝_, _⊗_}
+use Rattle.meaning.specs.Smoothing.{apart}
 use Rattle.meaning.specs.Values.{nearest}
+use Rattle.meaning.specs.Planner.{nearestDown}
 
 -- ---- by quotient and rest
 module _ {z : ℤ} {d : ℕ} {q : ℤ} {r : ℕ} (h : Divided z d q r) where
@@ -87,3 +92,38 @@ module _ (d : ℕ) (h : 0 < d) where
 
     pub nearest-half : (k : ℤ) → natAbs (z -ℤ pos d *ℤ k) ≡ natAbs (z -ℤ pos d *ℤ nearest z d) → k ≤ℤ nearest z d
     nearest-half k e = let l = half-upper off-half (nearest z d -ℤ k) (rw (off-other k) at e) in omega (zarith, of- (nearest z d) k)
+
+-- ---- a half going down
+module _ (n d : ℕ) (h : 0 < d) where
+  abbrev down : ℕ
+  down = nearestDown n d
+
+  down-lower : down * (2 * d) ≤ 2 * n + d - 1
+  unfolding nearestDown
+  down-lower = le-div-iff-mul-le {k = 2 * d} (omega arith) .0 (le-refl _)
+
+  down-upper : 2 * n + d - 1 < (down + 1) * (2 * d)
+  unfolding nearestDown
+  down-upper = div-lt-iff-lt-mul {k = 2 * d} (omega arith) .0 (omega arith)
+
+  pub down-nearest : (k : ℕ) → apart (down * d) n ≤ apart (k * d) n
+  down-nearest k = go (decLt k down) (decLt down k)
+    where
+      go : Dec (k < down) → Dec (down < k) → apart (down * d) n ≤ apart (k * d) n
+      go (yes l) e = omega (arith, down-lower, mul-le-mul-right d l)
+      go (no l) (yes e) = omega (arith, down-upper, mul-le-mul-right d e)
+      go (no l) (no e) = let i : k ≡ down = omega arith in rw i (le-refl _)
+
+  pub down-half : (k : ℕ) → apart (k * d) n ≡ apart (down * d) n → down ≤ k
+  down-half k i = go (decLt k down)
+    where
+      go : Dec (k < down) → down ≤ k
+      go (yes l) = absurd (omega (arith, down-lower, mul-le-mul-right d l))
+      go (no l) = omega arith
+
+  pub down-most : {b : ℕ} → n ≤ b * d → down ≤ b
+  down-most {b} l = go (decLt b down)
+    where
+      go : Dec (b < down) → down ≤ b
+      go (yes k) = absurd (omega (arith, down-lower, mul-le-mul-right d k))
+      go (no k) = omega arith

@@ -1,34 +1,34 @@
--- The planner's rule: which radius and edge weight it finds, that their plan is allowed, and that its kernel is no wider than asked.
+-- The planner's rule: which radius and edge weight it finds, and that their plan is allowed.
 --   planned s K b   the plan found for sigma s, K passes and inner weight b
 -- Laws: radius-fits, radius-largest (the radius by its rule), radius-is, radius-bounded (of every radius that fits), radius-most;
--- edge-positive, edge-largest (the edge weight by its rule), edge-less; planner-rising, planner-numbered; sigma-allowed, allowed-sigma, tested-sigma (rows 1, 3 and 13 say all of it), least-Q; planned-allowed, planned-variance; planner-never-15.
+-- edge-positive, under-positive, edge-nearest, edge-half (the edge weight by its rule: none is nearer, and of two as near it is the lower), edge-most;
+-- stage-full, stage-below, stage-inner, stage-taps (the pass found, by the original one); planner-rising, planner-numbered;
+-- sigma-allowed, allowed-sigma, tested-sigma (rows 1, 3 and 13 say all of it), least-Q; planned-allowed; planner-never-15.
 use mathlib.Core.Path.{_≡_, refl, sym, ap, subst}
 use mathlib.Core.Logic.{_≢_, ⊎-elim}
 use mathlib.Core.Bool.{Bool, true, false, cond}
 use mathlib.Core.List.{List, [], _∷_}
 use Prim.Native.Nat.{ℕ, zero, suc, _+_, _*_, _-_, _≤_, _<_}
-use native.Mathlib.Nat.{mul-le-mul, mul-le-mul-left, mul-le-mul-right, le-of-mul-le-mul-left, le-div-iff-mul-le, div-lt-iff-lt-mul}
+use native.Mathlib.Nat.{mul-le-mul, mul-le-mul-left, mul-le-mul-right}
 use native.Mathlib.Decide.{ℕ-discrete, decLt}
 use native.Mathlib.Omega.{arith}
 use lib.Dec.{leb, ltb}
-use lib.IntN.{ℤ, pos, negsuc, _*ℤ_}
-use lib.Signed.{_≤ℤ_}
-use lib.ListN.{length-replicate}
+use lib.ListN.{replicate, length-replicate}
 use borrow.Author.Tests.{leb-true, leb-false, le-leb, le-ltb}
-use Rattle.algebra.specs.Order.{zarith, of*}
 use Rattle.meaning.specs.Limits.{least, maxPasses, maxRadius, maxInner, maxSigma}
-use Rattle.meaning.specs.Kernel.{Stage, plan, tapSum, divisor, moment}
+use Rattle.meaning.specs.Kernel.{Stage}
+use Rattle.meaning.specs.Smoothing.{apart}
 use Rattle.meaning.specs.Refusals.{Answer, Row, _when_, firstOf, outside}
-use Rattle.meaning.specs.Planner.{largest, radiusFor, edgeFor, plannerRows}
-use Rattle.meaning.specs.Bounds.{AllowedPlan, AllowedSigma}
-use Rattle.theory.specs.Stages.{tapSum-is, tapSum-positive}
-use Rattle.theory.specs.Moment.{moment-replicate, moment-stage}
+use Rattle.meaning.specs.Planner.{largest, radiusFor, edgeOver, edgeUnder, edgeFor, originalFor, stageFor, plannerRows}
+use Rattle.meaning.specs.Bounds.{AllowedStage, AllowedPlan, AllowedSigma}
+use Rattle.theory.specs.SameTaps.{SameTaps, widened-full, widened-below, widened-taps}
+use Rattle.theory.specs.Nearest.{down-nearest, down-half, down-most}
 use Rattle.theory.specs.Refusals.{done, Off, Numbered, Rising, done-off, off-done, append-off, first-parts}
 use Rattle.theory.specs.Tests.{outside-no, no-outside}
 use Rattle.theory.specs.Accepted.{allowed-stages}
 
 abbrev pub planned : ℕ → ℕ → ℕ → List Stage
-planned s K b = let r = radiusFor s (10000 * K) in plan r b (edgeFor s (10000 * K) b r) K
+planned s K b = replicate K (stageFor s (10000 * K) b)
 
 -- ---- the largest where a test is true
 module _ (t : ℕ → Bool) where
@@ -69,10 +69,10 @@ module _ (s Q : ℕ) where
   found = radiusFor s Q
 
   abbrev over : ℕ → ℕ
-  over b = b * (2 * found + 1) * (3 * (s * s) - found * (found + 1) * Q)
+  over b = edgeOver s Q b found
 
   abbrev under : ℕ
-  under = 6 * ((found + 1) * (found + 1) * Q - s * s)
+  under = edgeUnder s Q found
 
   module _ (q : 10000 ≤ Q) where
     pub radius-fits : found * (found + 1) * Q ≤ 3 * (s * s)
@@ -121,39 +121,49 @@ module _ (s Q : ℕ) where
     pub edge-positive : s * s < (found + 1) * (found + 1) * Q
     edge-positive = omega (arith, radius-next)
 
-    under-positive : 0 < under
+    pub under-positive : 0 < under
     under-positive = omega (arith, edge-positive)
 
     module _ (b : ℕ) where
-      pub edge-largest : (n : ℕ) → (n ≤ edgeFor s Q b found → n * under ≤ over b) × (n * under ≤ over b → n ≤ edgeFor s Q b found)
-      unfolding edgeFor
-      edge-largest n = le-div-iff-mul-le under-positive
-
-      pub edge-less : 0 < b → edgeFor s Q b found < b
-      unfolding edgeFor
-      edge-less l =
+      -- the survey's value is not above b
+      over-most : over b ≤ b * under
+      over-most =
           let e : found * (found + 1) * Q + (3 * (s * s) - found * (found + 1) * Q) ≡ 3 * (s * s) = omega (arith, radius-fits) in
           let f : (2 * found + 1) * (3 * (s * s) - found * (found + 1) * Q) < under = omega (arith, ap (λ (x : ℕ). (2 * found + 1) * x) e, edge-positive, mul-le-mul-left (2 * found + 3) radius-next) in
-          div-lt-iff-lt-mul under-positive .1 (omega (arith, mul-le-mul-left b f))
+          omega (arith, mul-le-mul-left b f)
 
--- ---- how wide the kernel is
--- at a radius and an edge weight that the rule allows, with x = s²
-stage-narrow : (r b a Q x : ℕ) → r * (r + 1) * Q ≤ 3 * x → x ≤ (r + 1) * (r + 1) * Q → a * (6 * ((r + 1) * (r + 1) * Q - x)) ≤ b * (2 * r + 1) * (3 * x - r * (r + 1) * Q)
-    → Q * (r * (r + 1) * (2 * r + 1) * b + 6 * (suc r * suc r) * a) ≤ 3 * x * ((2 * r + 1) * b + 2 * a)
-stage-narrow r b a Q x h k l =
-    let e : r * (r + 1) * Q + (3 * x - r * (r + 1) * Q) ≡ 3 * x = omega arith in
-    let f : x + ((r + 1) * (r + 1) * Q - x) ≡ (r + 1) * (r + 1) * Q = omega arith in
-    omega (arith, ap (λ (y : ℕ). b * (2 * r + 1) * y) e, ap (λ (y : ℕ). a * y) f)
+      pub edge-nearest : (n : ℕ) → apart (edgeFor s Q b found * under) (over b) ≤ apart (n * under) (over b)
+      unfolding edgeFor
+      edge-nearest = down-nearest (over b) under under-positive
 
--- moment m and divisor d of K passes, of which each has a third of w and the sum T
-no-wider : (m v : ℤ) (K T w d x : ℕ) → 0 < T → pos T *ℤ m ≡ pos K *ℤ (v *ℤ pos d) → pos 3 *ℤ v ≡ pos w → 10000 * K * w ≤ 3 * x * T → (pos 10000 *ℤ m) ≤ℤ (pos x *ℤ pos d)
-no-wider (negsuc m) v K T w d x t e f h = omega (zarith, of* (pos 10000) (negsuc m))
-no-wider (pos m) (negsuc v) K T w d x t e f h = absurd (omega (zarith, of* (pos 3) (negsuc v)))
-no-wider (pos m) (pos v) K T w d x t e f h =
-    let g : 3 * v ≡ w = omega zarith in
-    let k : 10000 * K * (3 * v) ≤ 3 * x * T = rw g h in
-    let l : 3 * T * (10000 * m) ≤ 3 * T * (x * d) = omega (zarith, mul-le-mul-right d k) in
-    let n : 10000 * m ≤ x * d = le-of-mul-le-mul-left l (omega arith) in omega zarith
+      pub edge-half : (n : ℕ) → apart (n * under) (over b) ≡ apart (edgeFor s Q b found * under) (over b) → edgeFor s Q b found ≤ n
+      unfolding edgeFor
+      edge-half = down-half (over b) under under-positive
+
+      pub edge-most : edgeFor s Q b found ≤ b
+      unfolding edgeFor
+      edge-most = down-most (over b) under under-positive over-most
+
+-- ---- one pass of the plan found
+module _ (s Q b : ℕ) where
+  pub stage-full : edgeFor s Q b (radiusFor s Q) ≡ b → stageFor s Q b ≡ record { radius = radiusFor s Q + 1; inner = b; edge = 0 }
+  unfolding stageFor
+  stage-full = widened-full (originalFor s Q b)
+
+  pub stage-below : edgeFor s Q b (radiusFor s Q) ≢ b → stageFor s Q b ≡ originalFor s Q b
+  unfolding stageFor
+  stage-below = widened-below (originalFor s Q b)
+
+  pub stage-inner : stageFor s Q b .inner ≡ b
+  stage-inner = go (ℕ-discrete (edgeFor s Q b (radiusFor s Q)) b)
+    where
+      go : Dec (edgeFor s Q b (radiusFor s Q) ≡ b) → stageFor s Q b .inner ≡ b
+      go (yes e) = rw (stage-full e)
+      go (no e) = rw (stage-below e)
+
+  pub stage-taps : SameTaps (stageFor s Q b) (originalFor s Q b)
+  unfolding stageFor
+  stage-taps = widened-taps (originalFor s Q b)
 
 -- ---- the rows
 module _ (s K b : ℕ) where
@@ -168,10 +178,7 @@ module _ (s K b : ℕ) where
   front = (1 when outside least maxPasses K) ∷ (3 when outside least maxInner b) ∷ (13 when outside least maxSigma s) ∷ []
 
   abbrev last : List Row
-  last = (15 when ltb maxRadius (radiusFor s Q)) ∷ []
-
-  abbrev stage : Stage
-  stage = record { radius = radiusFor s Q; inner = b; edge = edgeFor s Q b (radiusFor s Q) }
+  last = (15 when ltb maxRadius (stageFor s Q b .radius)) ∷ []
 
   pub planner-rising : Rising rows
   unfolding plannerRows
@@ -193,21 +200,19 @@ module _ (s K b : ℕ) where
     pub least-Q : 10000 ≤ Q
     least-Q = omega (arith, ok .passes .0)
 
-    allowed-radius : radiusFor s Q ≤ maxRadius
-    allowed-radius = omega (arith, radius-most s Q least-Q (ok .sigma .1))
+    allowed-stage : AllowedStage (stageFor s Q b)
+    allowed-stage = go (ℕ-discrete (edgeFor s Q b (radiusFor s Q)) b) (radius-most s Q least-Q (ok .sigma .1)) (edge-most s Q least-Q b)
+      where
+        go : Dec (edgeFor s Q b (radiusFor s Q) ≡ b) → radiusFor s Q ≤ 442 → edgeFor s Q b (radiusFor s Q) ≤ b → AllowedStage (stageFor s Q b)
+        go (yes e) l m = rw (stage-full s Q b e) (record { radius = omega arith; inner = ok .inner; edge = ok .inner .0 })
+        go (no e) l m = rw (stage-below s Q b e) (record { radius = omega arith; inner = ok .inner; edge = omega arith })
 
     pub allowed-sigma : firstOf rows ≡ done
     unfolding plannerRows
-    allowed-sigma = off-done rows (no-outside (ok .passes .0) (ok .passes .1), (no-outside (ok .inner .0) (ok .inner .1), (no-outside (ok .sigma .0) (ok .sigma .1), (le-ltb _ _ allowed-radius, tt))))
+    allowed-sigma = off-done rows (no-outside (ok .passes .0) (ok .passes .1), (no-outside (ok .inner .0) (ok .inner .1), (no-outside (ok .sigma .0) (ok .sigma .1), (le-ltb _ _ (allowed-stage .radius), tt))))
 
     pub planned-allowed : AllowedPlan (planned s K b)
-    planned-allowed = record { passes = rw (length-replicate K stage) (ok .passes); stages = allowed-stages K (record { radius = allowed-radius; inner = ok .inner; edge = edge-less s Q least-Q b (ok .inner .0) }) }
-
-    pub planned-variance : (pos 10000 *ℤ moment (planned s K b)) ≤ℤ (pos (s * s) *ℤ pos (divisor (planned s K b)))
-    planned-variance =
-        let r = radiusFor s Q in
-        let h = stage-narrow r b (edgeFor s Q b r) Q (s * s) (radius-fits s Q least-Q) (omega (arith, edge-positive s Q least-Q)) (edge-largest s Q least-Q b _ .0 (omega arith)) in
-        no-wider (moment (planned s K b)) (moment (stage ∷ [])) K (tapSum stage) _ _ (s * s) (tapSum-positive stage (ok .inner .0)) (moment-replicate K stage) (moment-stage stage) (rw (tapSum-is stage) h)
+    planned-allowed = record { passes = rw (length-replicate K (stageFor s Q b)) (ok .passes); stages = allowed-stages K allowed-stage }
 
   -- row 15 applies only where another does
   pub planner-never-15 : firstOf rows .number ≢ 15

@@ -1,0 +1,74 @@
+-- Stages of one and the same tap row, whatever their radius: their passes, sums and kernels are the same.
+--   SameTaps s t   the taps of s and t are equal at every offset
+-- Laws: passAt-taps, tapSum-taps; kernel-taps, divisor-taps (of K equal stages);
+-- widened-full, widened-below (what `widened` makes of a stage), widened-taps (its taps stay).
+use mathlib.Core.Path.{_≡_, refl, sym, _∙_, ap}
+use mathlib.Core.Logic.{_≢_}
+use Prim.Native.Nat.{ℕ, zero, suc, _+_, _≤_, _<_}
+use native.Mathlib.Decide.{ℕ-discrete, decLe}
+use native.Mathlib.Omega.{arith}
+use lib.ListN.{replicate}
+use lib.IntN.{ℤ, pos, natAbs, _-ℤ_, _*ℤ_}
+use borrow.Author.Tests.{eq-eqb, ne-eqb}
+use Rattle.algebra.specs.Ring.{*ℤ-idr}
+use Rattle.algebra.specs.Within.{sumWithin, beyond-*, within-ext, within-wide}
+use Rattle.meaning.specs.Kernel.{Stage, tap, passAt, kernel, tapSum, divisor}
+use Rattle.meaning.specs.Planner.{widened}
+use Rattle.theory.specs.Kernel.{tap-inside, tap-edge, tap-outside, tapReach-width, kernel-cons}
+use Rattle.theory.specs.Convolution.{passAt-ext, passAt-const}
+use Rattle.theory.specs.Stages.{divisor-replicate}
+
+abbrev pub SameTaps : Stage → Stage → Type 0
+SameTaps s t = (m : ℤ) → tap s m ≡ tap t m
+
+module _ (s t : Stage) (h : SameTaps s t) where
+  pub passAt-taps : (e : ℤ → ℤ) (n : ℤ) → passAt s e n ≡ passAt t e n
+  unfolding passAt
+  passAt-taps e n = wide s (omega arith) ∙ within-ext _ (λ j l. ap (λ z. z *ℤ e (n -ℤ j)) (h j)) ∙ sym (wide t (omega arith))
+    where
+      R : ℕ
+      R = suc (s .radius + t .radius)
+
+      wide : (u : Stage) → suc (u .radius) ≤ R → sumWithin (suc (u .radius)) (λ j. tap u j *ℤ e (n -ℤ j)) ≡ sumWithin R (λ j. tap u j *ℤ e (n -ℤ j))
+      wide u l = sym (within-wide _ R _ l (beyond-* (λ j. e (n -ℤ j)) (λ m k. tap-outside u m (omega (arith, tapReach-width u)))))
+
+  pub tapSum-taps : tapSum s ≡ tapSum t
+  tapSum-taps = let e : pos (tapSum s) ≡ pos (tapSum t) = sym (ones s) ∙ passAt-taps (λ x. pos 1) (pos 0) ∙ ones t in cc
+    where
+      ones : (u : Stage) → passAt u (λ x. pos 1) (pos 0) ≡ pos (tapSum u)
+      ones u = passAt-const u (pos 1) (pos 0) ∙ *ℤ-idr (pos (tapSum u))
+
+  pub kernel-taps : (K : ℕ) (m : ℤ) → kernel (replicate K s) m ≡ kernel (replicate K t) m
+  kernel-taps zero m = refl
+  kernel-taps (suc K) m = kernel-cons s (replicate K s) m ∙ passAt-ext s (kernel-taps K) m ∙ passAt-taps (kernel (replicate K t)) m ∙ sym (kernel-cons t (replicate K t) m)
+
+  pub divisor-taps : (K : ℕ) → divisor (replicate K s) ≡ divisor (replicate K t)
+  divisor-taps K = rw (divisor-replicate K s, divisor-replicate K t, tapSum-taps)
+
+-- ---- an edge weight that is the inner weight
+module _ (t : Stage) where
+  abbrev wider : Stage
+  wider = record { radius = t .radius + 1; inner = t .inner; edge = 0 }
+
+  pub widened-full : t .edge ≡ t .inner → widened t ≡ wider
+  unfolding widened
+  widened-full e = rw (eq-eqb _ _ e)
+
+  pub widened-below : t .edge ≢ t .inner → widened t ≡ t
+  unfolding widened
+  widened-below e = rw (ne-eqb _ _ e)
+
+  wider-taps : t .edge ≡ t .inner → SameTaps wider t
+  wider-taps e m = go (decLe (natAbs m) (t .radius)) (ℕ-discrete (natAbs m) (suc (t .radius)))
+    where
+      go : Dec (natAbs m ≤ t .radius) → Dec (natAbs m ≡ suc (t .radius)) → tap wider m ≡ tap t m
+      go (yes l) d = tap-inside wider m (omega arith) ∙ sym (tap-inside t m l)
+      go (no l) (yes i) = tap-inside wider m (omega arith) ∙ ap pos (sym e) ∙ sym (tap-edge t m i)
+      go (no l) (no i) = tap-outside wider m (omega arith) ∙ sym (tap-outside t m (omega (arith, tapReach-width t)))
+
+  pub widened-taps : SameTaps (widened t) t
+  widened-taps m = go (ℕ-discrete (t .edge) (t .inner))
+    where
+      go : Dec (t .edge ≡ t .inner) → tap (widened t) m ≡ tap t m
+      go (yes e) = rw (widened-full e) (wider-taps e m)
+      go (no e) = rw (widened-below e)
