@@ -18,7 +18,7 @@ impl Planned {
     pub const MAX_SIGMA: u64 = 25600;
 }
 
-// Radius and edge weight by the rule, for so many passes with this inner weight. The kernel is no wider than the standard deviation asked.
+// Radius and edge weight by the rule, for so many passes with this inner weight.
 pub fn plan_for(sigma_hundredths: u64, passes: u64, inner: u64) -> Planned
     ensures { λ r. ⌜ plannedOf r ≡ planFor «sigma_hundredths» passes inner ⌝ }
 {
@@ -32,6 +32,16 @@ pub fn plan_for(sigma_hundredths: u64, passes: u64, inner: u64) -> Planned
     }
     let radius = rule::radius(sigma_hundredths, passes);
     let edge = rule::edge(sigma_hundredths, passes, inner, radius);
+    // An edge as heavy as the rest: the same taps are one radius more and no edge.
+    if edge == inner {
+        let radius = radius + 1;
+        let edge = 0;
+        return Planned {
+            number,
+            radius,
+            edge,
+        };
+    }
     Planned {
         number,
         radius,

@@ -1,4 +1,4 @@
-// The rule: with Q = 10,000 K, the largest radius whose box is no wider than asked, and the largest edge weight there.
+// The rule: with Q = 10,000 K, the largest radius whose box is no wider than asked, and there the edge weight nearest the survey's.
 ghost use mathlib.Core.Path.{_≡_};
 ghost use Prim.Native.Nat.{_*_};
 ghost use Rattle.meaning.specs.Planner as meant;
@@ -18,7 +18,7 @@ pub(crate) fn radius(sigma: u64, passes: u64) -> u64
     r
 }
 
-// The largest a not above b(2r+1)(3s² - r(r+1)Q) / (6((r+1)²Q - s²)).
+// The whole number nearest b(2r+1)(3s² - r(r+1)Q) / (6((r+1)²Q - s²)), a half going down.
 pub(crate) fn edge(sigma: u64, passes: u64, inner: u64, radius: u64) -> u64
     requires { ⌜ Found sigma passes inner radius ⌝ }
     ensures { λ r. ⌜ r ≡ meant.edgeFor sigma (10000 * passes) inner radius ⌝ }
@@ -28,5 +28,5 @@ pub(crate) fn edge(sigma: u64, passes: u64, inner: u64, radius: u64) -> u64
     let next = radius + 1;
     let numerator = inner * (2 * radius + 1) * (3 * square - radius * next * q);
     let denominator = 6 * (next * next * q - square);
-    numerator / denominator
+    (2 * numerator + denominator - 1) / (2 * denominator)
 }

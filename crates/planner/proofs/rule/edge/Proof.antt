@@ -1,7 +1,7 @@
 -- The quotient is that of the definition: at the radius found no difference is cut off, and no product wraps.
 use mathlib.Core.Path.{refl}
 use native.Mathlib.Omega.{arith}
-use Rattle.meaning.specs.Planner.{edgeFor}
+use Rattle.meaning.specs.Planner.{nearestDown, edgeFor}
 use Rattle.planner.specs.Sizes.{found-fits}
 use Rattle.planner.proofs.rule.edge.Statement.{statement}
 use Rattle.planner.proofs.rule.edge.Tie as tie
@@ -51,11 +51,23 @@ sub-denominator c = omega (arith, found-fits (c .pre))
 mul-denominator-3 : tie.Need-mul-denominator-3
 mul-denominator-3 c = omega (arith, found-fits (c .pre))
 
+mul-result : tie.Need-mul-result
+mul-result c = omega (arith, found-fits (c .pre))
+
+add-result : tie.Need-add-result
+add-result c = omega (arith, found-fits (c .pre))
+
+sub-result : tie.Need-sub-result
+sub-result c = omega (arith, found-fits (c .pre))
+
+mul-result-2 : tie.Need-mul-result-2
+mul-result-2 c = omega (arith, found-fits (c .pre))
+
 div-result : tie.Need-div-result
 div-result c = omega (arith, found-fits (c .pre))
 
 returns : tie.Need-returns
-unfolding edgeFor
+unfolding edgeFor nearestDown
 returns c = refl
 
 pub edge-spec : {M : Type 1} → statement M
@@ -77,5 +89,9 @@ edge-spec =
     mul-denominator-2
     sub-denominator
     mul-denominator-3
+    mul-result
+    add-result
+    sub-result
+    mul-result-2
     div-result
     returns)
