@@ -4,34 +4,39 @@
 --   number, radius, edge   what it answered; it has no position
 --   rows, Allowed      its rows of the table of numbers, and the bounds of document 01
 --   Q c                10,000 times the passes
---   found c            the plan of the radius and edge weight answered
+--   original c         one pass of the original radius and the edge weight there
+--   stage c, found c   one pass of the radius and edge weight answered, and all passes
 --   LargestRadius s Q r     r is the largest whole number with r(r+1)Q <= 3s²
---   LargestEdge s Q b r a   a is the largest whole number not above b(2r+1)(3s² - r(r+1)Q) / (6((r+1)²Q - s²)), where no difference is below 0 and the denominator is not 0
+--   off s Q b r n           how far edge weight n is from the survey's value at radius r, edgeOver over edgeUnder, times edgeUnder
+--   NearestEdge s Q b r a   of all edge weights none is nearer to that value than a, and of two as near a is the lower; it is from 0 to b. In the value no difference is below 0, and edgeUnder is not 0
 --   Exactly            as of Smoothings
 --   planner-lowest     the number is 0, or that of a row that applies, and then the lowest of those
 --   planner-done, planner-allowed   it is 0 exactly where no row applies, and exactly where the bounds hold
 --   planner-never-15   it is never 15
 --   planner-zeros      where it is refused, radius and edge weight are 0
---   planner-radius, planner-edge   where it is done, they are the largest that the rule allows
---   planner-plan       and their plan is allowed
---   planner-variance   the variance of its K-fold kernel, the moment over the divisor, is at most s²/10,000
+--   planner-radius, planner-edge   where it is done, the original radius is the largest that the rule allows, and the edge weight there the nearest
+--   planner-below, planner-full    these are answered, where that weight is below b; where it is b, one radius more and edge weight 0
+--   planner-taps, planner-kernel   the taps answered are the original ones at every offset, and so are the K-fold kernel and its divisor
+--   planner-plan       the plan answered is allowed
 --   planner-one        two outcomes that the contract allows are the same
-use Prim.Native.Nat.{ℕ, _+_, _*_, _-_, _≤_, _<_}
+use Prim.Native.Nat.{ℕ, _+_, _*_, _≤_, _<_}
 use mathlib.Core.Path.{_≡_, sym, ap, _∙_}
 use mathlib.Core.Logic.{_≢_}
 use mathlib.Core.List.{List}
-use lib.IntN.{pos, _*ℤ_}
-use lib.Signed.{_≤ℤ_}
+use lib.ListN.{replicate}
+use lib.IntN.{ℤ}
 use contract.Lifetimes.{Lfts}
 use denote.Triple.Clauses.{AtExit}
 use borrow.Fn.Kinds.{Dens, resT, endedOf}
-use Rattle.meaning.specs.Kernel.{Stage, plan, divisor, moment}
+use Rattle.meaning.specs.Kernel.{Stage, plan, tap, kernel, divisor}
+use Rattle.meaning.specs.Smoothing.{apart}
 use Rattle.meaning.specs.Refusals as meant
 use Rattle.meaning.specs.Refusals.{Row, firstOf, Applies}
 use Rattle.meaning.specs.Planner as outcomes
-use Rattle.meaning.specs.Planner.{radiusFor, edgeFor, plannerRows, planFor}
+use Rattle.meaning.specs.Planner.{edgeOver, edgeUnder, originalFor, stageFor, plannerRows, planFor}
 use Rattle.meaning.specs.Bounds.{AllowedPlan, AllowedSigma}
 use Rattle.theory.specs.Refusals.{number-lowest, number-none, ifDone-done, ifDone-refused}
+use Rattle.theory.specs.SameTaps.{kernel-taps, divisor-taps}
 use Rattle.theory.specs.Planner as rule
 use Rattle.planner.specs.declared.Planned.{Planned}
 use Rattle.planner.specs.Structs.{plannedOf}
@@ -74,6 +79,12 @@ Allowed c = AllowedSigma (sigma c) (passes c) (inner c)
 abbrev pub Q : PlannerCall → ℕ
 Q c = 10000 * passes c
 
+abbrev pub original : PlannerCall → Stage
+original c = originalFor (sigma c) (Q c) (inner c)
+
+abbrev pub stage : PlannerCall → Stage
+stage c = record { radius = radius c; inner = inner c; edge = edge c }
+
 abbrev pub found : PlannerCall → List Stage
 found c = plan (radius c) (inner c) (edge c) (passes c)
 
@@ -81,28 +92,20 @@ found c = plan (radius c) (inner c) (edge c) (passes c)
 abbrev pub LargestRadius : ℕ → ℕ → ℕ → Type 0
 LargestRadius s Q r = (n : ℕ) → Exactly (n ≤ r) (n * (n + 1) * Q ≤ 3 * (s * s))
 
-abbrev pub LargestEdge : ℕ → ℕ → ℕ → ℕ → ℕ → Type 0
-LargestEdge s Q b r a =
-    (r * (r + 1) * Q ≤ 3 * (s * s))
-    × (s * s < (r + 1) * (r + 1) * Q)
-    × ((n : ℕ) → Exactly (n ≤ a) (n * (6 * ((r + 1) * (r + 1) * Q - s * s)) ≤ b * (2 * r + 1) * (3 * (s * s) - r * (r + 1) * Q)))
+abbrev pub off : ℕ → ℕ → ℕ → ℕ → ℕ → ℕ
+off s Q b r n = apart (n * edgeUnder s Q r) (edgeOver s Q b r)
 
-module _ {s K b r a : ℕ} (ok : AllowedSigma s K b) (e : r ≡ radiusFor s (10000 * K)) (f : a ≡ edgeFor s (10000 * K) b (radiusFor s (10000 * K))) where
-  radius-largest : LargestRadius s (10000 * K) r
-  radius-largest = rw e (rule.radius-largest s (10000 * K) (rule.least-Q s K b ok))
-
-  edge-largest : LargestEdge s (10000 * K) b r a
-  edge-largest =
-      let q = rule.least-Q s K b ok in
-      rw (f, e) (rule.radius-fits s (10000 * K) q, rule.edge-positive s (10000 * K) q, rule.edge-largest s (10000 * K) q b)
-
-  plan-allowed : AllowedPlan (plan r b a K)
-  plan-allowed = rw (f, e) (rule.planned-allowed s K b ok)
-
-  plan-variance : (pos 10000 *ℤ moment (plan r b a K)) ≤ℤ (pos (s * s) *ℤ pos (divisor (plan r b a K)))
-  plan-variance = rw (f, e) (rule.planned-variance s K b ok)
+pub record NearestEdge (s Q b r a : ℕ) : Type 0 where
+  pub over : r * (r + 1) * Q ≤ 3 * (s * s)
+  pub under : s * s < (r + 1) * (r + 1) * Q
+  pub nearest : (n : ℕ) → off s Q b r a ≤ off s Q b r n
+  pub lower : (n : ℕ) → off s Q b r n ≡ off s Q b r a → a ≤ n
+  pub most : a ≤ b
 
 -- ---- one call
+same-stage : (t : Stage) {r b a : ℕ} → r ≡ t .radius → b ≡ t .inner → a ≡ t .edge → record { radius = r; inner = b; edge = a } ≡ t
+same-stage t f g h = rw (f, g, h)
+
 module _ (c : PlannerCall) where
   whole : plannedOf (c .answered) ≡ planFor (sigma c) (passes c) (inner c)
   whole = c .learnt
@@ -131,28 +134,44 @@ module _ (c : PlannerCall) where
 
   -- a call that is done
   module _ (e : number c ≡ 0) where
-    radius-is : radius c ≡ radiusFor (sigma c) (Q c)
-    unfolding planFor
-    radius-is = ap (λ (p : outcomes.Planned). p .radius) whole ∙ ifDone-done _ _ _ (sym number-is ∙ e)
-
-    edge-is : edge c ≡ edgeFor (sigma c) (Q c) (inner c) (radiusFor (sigma c) (Q c))
-    unfolding planFor
-    edge-is = ap (λ (p : outcomes.Planned). p .edge) whole ∙ ifDone-done _ _ _ (sym number-is ∙ e)
-
     ok : Allowed c
     ok = planner-allowed .0 e
 
-    pub planner-radius : LargestRadius (sigma c) (Q c) (radius c)
-    planner-radius = radius-largest ok radius-is edge-is
+    q : 10000 ≤ Q c
+    q = rule.least-Q _ _ _ ok
 
-    pub planner-edge : LargestEdge (sigma c) (Q c) (inner c) (radius c) (edge c)
-    planner-edge = edge-largest ok radius-is edge-is
+    stage-is : stage c ≡ stageFor (sigma c) (Q c) (inner c)
+    unfolding planFor
+    stage-is =
+        let n = sym number-is ∙ e in
+        same-stage (stageFor (sigma c) (Q c) (inner c)) (ap (λ (p : outcomes.Planned). p .radius) whole ∙ ifDone-done _ _ _ n) (sym (rule.stage-inner (sigma c) (Q c) (inner c))) (ap (λ (p : outcomes.Planned). p .edge) whole ∙ ifDone-done _ _ _ n)
+
+    pub planner-radius : LargestRadius (sigma c) (Q c) (original c .radius)
+    planner-radius = rule.radius-largest (sigma c) (Q c) q
+
+    pub planner-edge : NearestEdge (sigma c) (Q c) (inner c) (original c .radius) (original c .edge)
+    planner-edge = record {
+      over = rule.radius-fits (sigma c) (Q c) q;
+      under = rule.edge-positive (sigma c) (Q c) q;
+      nearest = rule.edge-nearest (sigma c) (Q c) q (inner c);
+      lower = rule.edge-half (sigma c) (Q c) q (inner c);
+      most = rule.edge-most (sigma c) (Q c) q (inner c);
+    }
+
+    pub planner-below : original c .edge ≢ inner c → stage c ≡ original c
+    planner-below h = stage-is ∙ rule.stage-below (sigma c) (Q c) (inner c) h
+
+    pub planner-full : original c .edge ≡ inner c → stage c ≡ record { radius = original c .radius + 1; inner = inner c; edge = 0 }
+    planner-full h = stage-is ∙ rule.stage-full (sigma c) (Q c) (inner c) h
+
+    pub planner-taps : (m : ℤ) → tap (stage c) m ≡ tap (original c) m
+    planner-taps m = ap (λ t. tap t m) stage-is ∙ rule.stage-taps (sigma c) (Q c) (inner c) m
+
+    pub planner-kernel : ((m : ℤ) → kernel (found c) m ≡ kernel (replicate (passes c) (original c)) m) × (divisor (found c) ≡ divisor (replicate (passes c) (original c)))
+    planner-kernel = (kernel-taps (stage c) (original c) planner-taps (passes c), divisor-taps (stage c) (original c) planner-taps (passes c))
 
     pub planner-plan : AllowedPlan (found c)
-    planner-plan = plan-allowed ok radius-is edge-is
-
-    pub planner-variance : (pos 10000 *ℤ moment (found c)) ≤ℤ (pos (sigma c * sigma c) *ℤ pos (divisor (found c)))
-    planner-variance = plan-variance ok radius-is edge-is
+    planner-plan = rw stage-is (rule.planned-allowed (sigma c) (passes c) (inner c) ok)
 
 -- ---- two calls
 abbrev back : outcomes.Planned → Planned

@@ -36,7 +36,7 @@ use Rattle.meaning.specs.Refusals as meant
 use Rattle.meaning.specs.Refusals.{firstOf, firstWhere, rowAt, some, planRows, sizeRows, Shape, seriesOf, pictureOf, ifDone}
 use Rattle.meaning.specs.Calls.{smoothRows, gained, editRows, countWhere, changed, Edited, editSeries, pointRows, point}
 use Rattle.meaning.specs.Values.{takes, doubleRows, doublesIn, outputRows, Summary, summary}
-use Rattle.meaning.specs.Planner.{largest, radiusFor, plannerRows, Planned, planFor}
+use Rattle.meaning.specs.Bounds.{AllowedSigma}
 use Rattle.meaning.specs.Encoding.{bytes, number}
 use Rattle.meaning.specs.Record.{Job, field, sampleBytes, recordOf, begins, reading, readRecord, recordSize}
 use Rattle.plan.specs.declared.Plan.{Plan}
@@ -208,13 +208,11 @@ pub summary-not-refused : (o : Summing) → Small (o .shape) → o .bound ≡ 9 
 unfolding summary
 summary-not-refused o s m r = ap (λ (x : Summary). x .answer .number) (o .is) ∙ output-number s m r (ap length r)
 
-planner-number : {s K b : ℕ} → s ≡ 500 → K ≡ 3 → b ≡ 16 → firstOf (plannerRows s K b) .number ≡ 0
-unfolding plannerRows radiusFor largest firstOf
-planner-number s k b = rw (s, k, b) refl
+planner-bounds : {s K b : ℕ} → s ≡ 500 → K ≡ 3 → b ≡ 16 → AllowedSigma s K b
+planner-bounds s k b = record { passes = (omega arith, omega arith); inner = (omega arith, omega arith); sigma = (omega arith, omega arith) }
 
 pub planner-not-refused : (c : PlannerCall) → planner.sigma c ≡ 500 → planner.passes c ≡ 3 → planner.inner c ≡ 16 → planner.number c ≡ 0
-unfolding planFor
-planner-not-refused c s k b = ap (λ (x : Planned). x .answer .number) (c .learnt) ∙ planner-number s k b
+planner-not-refused c s k b = planner.planner-allowed c .1 (planner-bounds s k b)
 
 page-number : readRecord page .answer .number ≡ 0
 unfolding recordOf field bytes sampleBytes readRecord begins reading number
