@@ -171,8 +171,8 @@ export function point({ plan, bound, position, samples, work }) {
   return { ...DONE, value: asDouble(result, divisorOf(plan)), work: zeros(work) };
 }
 
-// Radius found above 1,023 (number 15) cannot occur: sigma is at most 256, so r(r+1) is at most 196,608 and r at
-// most 442. It is tested all the same.
+// Radius found above 1,023 (number 15) cannot occur: sigma is at most 256, so r(r+1) is at most 196,608, r at most 442
+// and the radius answered at most 443. It is tested all the same.
 export function planner({ sigma, passes, inner }) {
   const refused = passesRefused([{ passes }])
     ?? innerRefused([{ inner }])

@@ -1,59 +1,5 @@
-// Cases of calls 5, 100 and 102: the planner, a plan by itself, and the planner of every sigma.
-import { LARGEST_U64, WIDEST, anyPlan, chance, pick, plan, times } from './inputs.mjs';
-
-// Call 5.
-
-function plannerCase(note, sigma, passes, inner) {
-  return { note, args: { sigma, passes, inner } };
-}
-
-const PLANNER_EDGES = [
-  plannerCase('example', 500, 3, 16),
-  plannerCase('example', 100, 3, 16),
-  plannerCase('example', 200, 1, 16),
-  plannerCase('least of all', 1, 1, 1),
-  plannerCase('least sigma', 1, 8, 255),
-  plannerCase('largest sigma, one pass', 25_600, 1, 255),
-  plannerCase('largest sigma, eight passes', 25_600, 8, 255),
-  plannerCase('sigma 0', 0, 3, 16),
-  plannerCase('sigma above', 25_601, 3, 16),
-  plannerCase('sigma largest', LARGEST_U64, 3, 16),
-  plannerCase('sigma 2^32', 2 ** 32, 3, 16),
-  plannerCase('passes 0', 500, 0, 16),
-  plannerCase('passes 9', 500, 9, 16),
-  plannerCase('passes largest', 500, LARGEST_U64, 16),
-  plannerCase('inner 0', 500, 3, 0),
-  plannerCase('inner 256', 500, 3, 256),
-  plannerCase('inner largest', 500, 3, LARGEST_U64),
-  plannerCase('1 before 3', 500, 0, 0),
-  plannerCase('1 before 13', 0, 9, 16),
-  plannerCase('3 before 13', 25_601, 3, 256),
-  plannerCase('1 before 3 and 13', LARGEST_U64, LARGEST_U64, LARGEST_U64),
-];
-
-// With one pass r(r+1) meets 3s²/10,000 exactly at these sigmas, where the edge weight is 0.
-const PLANNER_EXACT = [200, 2800].flatMap((sigma) => [-1, 0, 1].map((more) => (
-  plannerCase('about an exact radius', sigma + more, 1, 255))));
-
-const EVERY_PASSES = times(8, (n) => n + 1);
-const INNERS = [1, 16, 255];
-
-// Every number of passes over a coarse grid. Steps are finer where a radius is small.
-const COARSE = [2, 25, 50, 99, 158, 250, 400, 666, 1000, 1600, 2503, 4000, 6400, 10_000, 16_000, 25_599];
-
-const PLANNER_GRID = INNERS.flatMap((inner) => EVERY_PASSES.flatMap((passes) => (
-  COARSE.map((sigma) => plannerCase('coarse grid', sigma, passes, inner)))));
-
-function plannerCases() {
-  const below = chance(105);
-  const chosen = times(72, (n) => {
-    const sigma = pick(below, [1 + below(100), 1 + below(1_000), 1 + below(25_600)]);
-    return plannerCase('chosen', sigma, 1 + n % 8, pick(below, [1, 2, 16, 100, 255]));
-  });
-  return [...PLANNER_EDGES, ...PLANNER_EXACT, ...PLANNER_GRID, ...chosen];
-}
-
-// Call 100.
+// Cases of call 100: a plan by itself.
+import { LARGEST_U64, WIDEST, anyPlan, chance, plan, times } from './inputs.mjs';
 
 function planCase(note, chosen) {
   return { note, args: { plan: chosen } };
@@ -164,15 +110,4 @@ function planCases() {
   return [...PLAN_EXAMPLES, ...PASSES, ...RADII, ...WEIGHTS, ...POWERS, ...WRAPPING, ...WIDE, ...TOGETHER, ...chosen];
 }
 
-// Call 102.
-
-function everySigmaCase(note, passes, inner) {
-  return { note, args: { passes, inner } };
-}
-
-function everySigmaCases() {
-  const accepted = INNERS.flatMap((inner) => EVERY_PASSES.map((passes) => everySigmaCase('every sigma', passes, inner)));
-  return [...accepted, everySigmaCase('passes 9', 9, 16), everySigmaCase('inner 0', 8, 0)];
-}
-
-export const casesOfPlans = { 5: plannerCases, 100: planCases, 102: everySigmaCases };
+export const casesOfPlans = { 100: planCases };

@@ -7,11 +7,12 @@ import { casesOfPoints } from './cases-points.mjs';
 import { casesOfOutputs } from './cases-outputs.mjs';
 import { casesOfCarries } from './cases-carry.mjs';
 import { casesOfRecords } from './cases-records.mjs';
+import { casesOfPlanner } from './cases-planner.mjs';
 import { casesOfPlans } from './cases-plans.mjs';
 import { callWords } from './stream.mjs';
 
 // The numbers each call can give; `check` asserts that the stored cases give them all.
-// The planner's 15 cannot be reached: sigma is at most 256, so the radius found is at most 442.
+// The planner's 15 cannot be reached: sigma is at most 256, so the radius answered is at most 443.
 // The summary of a series is lent results alone, whose length is N itself, so it cannot give 8.
 // A plan by itself answers no number, nor does a stretch of a record; the planner of every sigma answers all of theirs.
 export const NUMBERS_GIVEN = {
@@ -35,7 +36,7 @@ export const NUMBERS_GIVEN = {
 
 const CASES = {
   ...casesOfSmoothing, ...casesOfPictures, ...casesOfEdits, ...casesOfPoints, ...casesOfOutputs, ...casesOfCarries,
-  ...casesOfRecords, ...casesOfPlans,
+  ...casesOfRecords, ...casesOfPlanner, ...casesOfPlans,
 };
 
 // The cases of a call: a note and the call's words.

@@ -3,6 +3,7 @@
 import { testExamples } from './test-examples.mjs';
 import { testSmoothing } from './test-smoothing.mjs';
 import { testValues } from './test-values.mjs';
+import { testPlanner } from './test-planner.mjs';
 import { testCarry } from './test-carry.mjs';
 import { testFormats } from './test-formats.mjs';
 import { testCases } from './test-cases.mjs';
@@ -12,6 +13,7 @@ import { tell } from './testing.mjs';
 testExamples();
 testSmoothing();
 testValues();
+testPlanner();
 testCarry();
 testFormats();
 testCases();

@@ -140,12 +140,21 @@ function largest(most, property) {
   return found;
 }
 
-// Radius and edge weight for sigma in hundredths, in BigInt because the quotient is rounded down.
-export function planFor(sigma, passes, inner) {
+// The survey's edge weight for sigma in hundredths, times the inner weight: the radius it stands at, and the value as
+// a fraction, in BigInt.
+export function surveyEdge(sigma, passes, inner) {
   const q = 10_000n * passes;
   const square = sigma * sigma;
-  const r = largest(sigma, (radius) => radius * (radius + 1n) * q <= 3n * square);
-  const over = inner * (2n * r + 1n) * (3n * square - r * (r + 1n) * q);
-  const under = 6n * ((r + 1n) * (r + 1n) * q - square);
-  return { radius: r, edge: over / under };
+  const radius = largest(sigma, (r) => r * (r + 1n) * q <= 3n * square);
+  const over = inner * (2n * radius + 1n) * (3n * square - radius * (radius + 1n) * q);
+  const under = 6n * ((radius + 1n) * (radius + 1n) * q - square);
+  return { radius, over, under };
+}
+
+// Radius and edge weight: the nearest, a half going down. One as heavy as the inner weight is one radius more.
+export function planFor(sigma, passes, inner) {
+  const { radius, over, under } = surveyEdge(sigma, passes, inner);
+  const below = over / under;
+  const edge = 2n * (over - below * under) > under ? below + 1n : below;
+  return edge === inner ? { radius: radius + 1n, edge: 0n } : { radius, edge };
 }

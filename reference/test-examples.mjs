@@ -52,9 +52,13 @@ function otherExamples() {
   same('edit', [change.number, change.count, change.samples, change.results],
     [0, 2, [0, 0, 9, 0, 3], [0, 9, 9, 12, 6]]);
 
-  for (const [sigma, passes, inner, radius, edge] of [[500, 3, 16, 4, 7], [100, 3, 16, 0, 4], [200, 1, 16, 3, 0]]) {
+  const plans = [
+    [500, 3, 16, 4, 7], [100, 3, 16, 0, 4], [200, 1, 16, 3, 0], [500, 4, 16, 3, 13],
+    [300, 1, 16, 4, 10], [316, 1, 16, 5, 0], [100, 2, 1, 0, 0],
+  ];
+  for (const [sigma, passes, inner, radius, edge] of plans) {
     const found = planner({ sigma: BigInt(sigma), passes: BigInt(passes), inner: BigInt(inner) });
-    same(`planner ${sigma}`, [found.number, found.radius, found.edge], [0, radius, edge]);
+    same(`planner ${sigma} ${passes}`, [found.number, found.radius, found.edge], [0, radius, edge]);
   }
 
   const eight = plan(1, 2, 1, 1);

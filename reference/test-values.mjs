@@ -1,7 +1,5 @@
-// The outputs, doubles in and the planner against facts that the requirements tell of them.
-import {
-  asWhole, doublesIn, doublesPicture, planner, summaryPicture, wholePicture,
-} from './calls.mjs';
+// The outputs and doubles in against facts that the requirements tell of them.
+import { asWhole, doublesIn, doublesPicture, summaryPicture, wholePicture } from './calls.mjs';
 import { chance } from './inputs.mjs';
 import { holds, plan, same } from './testing.mjs';
 
@@ -36,28 +34,7 @@ function doublesInFacts() {
   }
 }
 
-// K times the variance of one pass is at most s²/10,000, and no longer with an edge weight one larger.
-function varianceFits(radius, inner, edge, passes, sigma) {
-  const squares = inner * radius * (radius + 1n) * (2n * radius + 1n) + 6n * edge * (radius + 1n) ** 2n;
-  const taps = (2n * radius + 1n) * inner + 2n * edge;
-  return passes * squares * 10_000n <= 3n * taps * sigma * sigma;
-}
-
-function plannerFacts() {
-  for (let n = 0; n < 400; n++) {
-    const [sigma, passes, inner] = [BigInt(1 + n * 64), BigInt(1 + n % 8), BigInt(1 + (n * 37) % 255)];
-    const { number, radius, edge } = planner({ sigma, passes, inner });
-    const facts = number === 0n && edge < inner
-      && varianceFits(radius, inner, edge, passes, sigma)
-      && !varianceFits(radius, inner, edge + 1n, passes, sigma)
-      && !varianceFits(radius + 1n, inner, 0n, passes, sigma);
-    holds(`planner ${sigma} ${passes} ${inner}`, facts);
-  }
-  same('largest radius', planner({ sigma: 25_600n, passes: 1n, inner: 1n }).radius, 442);
-}
-
 export function testValues() {
   outputFacts();
   doublesInFacts();
-  plannerFacts();
 }

@@ -216,7 +216,7 @@ const OPENED = {
     'nearest ratio takes doubleRows doublesIn outputRows converted unbeaten summary',
   'Rattle.meaning.specs.Carry': 'carry carryCell carried',
   'Rattle.meaning.specs.Calls': 'smoothRows smoothed gained editRows countWhere changed editSeries pointRows point',
-  'Rattle.meaning.specs.Planner': 'largest radiusFor edgeFor plannerRows planFor',
+  'Rattle.meaning.specs.Planner': 'largest radiusFor nearestDown edgeFor widened stageFor plannerRows planFor',
   'Rattle.meaning.specs.Encoding': 'bytes number text digits decimal',
   'Rattle.meaning.specs.Record':
     'field sampleBytes sampleAt stretch samplesOf recordOf begins reading readRecord writeRecord',
