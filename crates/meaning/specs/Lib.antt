@@ -9,7 +9,7 @@
 --   Carry       whole numbers out that add up; its page is document 02
 --   Calls       smoothing a series and a picture, an edit, a point: what each answers and leaves
 --   Bounds      the table of bounds as inequalities, beside the rows
---   Planner     from standard deviation to radius and edge weight
+--   Planner     from standard deviation to radius and edge weight; which whole weight is taken is of document 02
 --   Encoding    numbers as bytes and as text
 --   Record      the job record: reader and writer
 --   Program     what `smooth` prints
