@@ -43,7 +43,6 @@ const PLANNER_EXACT = [200, 2800].flatMap((sigma) => [-1, 0, 1].map((more) => (
 
 const EVERY_PASSES = times(8, (n) => n + 1);
 const INNERS = [1, 16, 255];
-const MORE_INNERS = [1, 2, 16, 100, 254, 255];
 
 // Every number of passes over a coarse grid. Steps are finer where a radius is small.
 const COARSE = [2, 25, 50, 99, 158, 250, 400, 666, 1000, 1600, 2503, 4000, 6400, 10_000, 16_000, 25_599];
@@ -79,7 +78,7 @@ const HALVES = [
 const PLANNER_HALVES = HALVES.flatMap(([inner, passes, sigmas]) => (
   sigmas.map((sigma) => plannerCase(HALF, sigma, passes, inner))));
 
-// Inner weight, and by passes the first sigma for which the inner weight itself is nearest.
+// Inner weight, and by passes the first sigma for which the inner weight itself is nearest; further down some last ones.
 const FULL_EDGES = [
   [1, [71, 101, 123, 142, 159, 174, 188, 201]],
   [2, [78, 110, 135, 155, 174, 190, 205, 220]],
@@ -122,8 +121,10 @@ function everySigmaCase(note, passes, inner) {
   return { note, args: { passes, inner } };
 }
 
+const EVERY_SIGMA_INNERS = [1, 2, 16, 100, 254, 255];
+
 function everySigmaCases() {
-  const accepted = MORE_INNERS.flatMap((inner) => (
+  const accepted = EVERY_SIGMA_INNERS.flatMap((inner) => (
     EVERY_PASSES.map((passes) => everySigmaCase('every sigma', passes, inner))));
   return [...accepted, everySigmaCase('passes 9', 9, 16), everySigmaCase('inner 0', 8, 0)];
 }

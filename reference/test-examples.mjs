@@ -54,7 +54,7 @@ function otherExamples() {
 
   const plans = [
     [500, 3, 16, 4, 7], [100, 3, 16, 0, 4], [200, 1, 16, 3, 0], [500, 4, 16, 3, 13],
-    [300, 1, 16, 4, 10], [316, 1, 16, 5, 0], [100, 2, 1, 0, 0],
+    [800, 3, 16, 7, 7], [316, 1, 16, 5, 0], [100, 2, 1, 0, 0],
   ];
   for (const [sigma, passes, inner, radius, edge] of plans) {
     const found = planner({ sigma: BigInt(sigma), passes: BigInt(passes), inner: BigInt(inner) });

@@ -118,7 +118,7 @@ examples =
     "smooth 0 8 3\n0 32\n1 24\n2 8\n"
     -- document 02's
     ∷ planner 500 4 16 3 13
-    -- of no page: without them a picture of one plan, columns read for rows, a reach of r + 1 always, a fraction taken, the last index of equals, a carry that is dropped and one of a refused call, a planner's half going up and an edge weight of b would pass
+    -- of no page: without them a picture of one plan, columns read for rows, a reach of r + 1 always, a fraction taken, the last index of equals, a carry that is dropped, one of a refused call, a planner's half going up or to even, and an edge weight of b would pass
     ∷ raster (plan 0 3 1 1) (plan 1 1 0 1) 2 2 (plus (1 ∷ 0 ∷ 0 ∷ 0 ∷ [])) (plus (8 ∷ 2 ∷ 4 ∷ 1 ∷ []))
     ∷ raster (plan 1 2 1 1) (plan 0 3 1 1) 3 2 (plus (9 ∷ 0 ∷ 0 ∷ 0 ∷ 0 ∷ 1 ∷ [])) (plus (145 ∷ 111 ∷ 40 ∷ 40 ∷ 39 ∷ 25 ∷ []))
     ∷ reached (plan 1 1 0 2) 2
@@ -138,7 +138,7 @@ examples =
     ∷ carries (plan 1 2 1 1) (pos 7 ∷ negsuc 0 ∷ pos 5 ∷ []) 3 (plus (0 ∷ 0 ∷ 1 ∷ []))
     ∷ carriesRaster (plan 0 3 1 1) (plan 0 3 1 1) 2 2 (plus (1 ∷ 0 ∷ 0 ∷ 0 ∷ [])) 0 (plus (0 ∷ 0 ∷ 0 ∷ 1 ∷ []))
     ∷ uncarried (plan 1 2 1 1) (plus (7 ∷ 10 ∷ [])) 12 1
-    ∷ planner 300 1 16 4 10
+    ∷ planner 800 3 16 7 7
     ∷ planner 100 2 1 0 0
     ∷ planner 316 1 16 5 0
     ∷ unplanned 25601 3 256 3

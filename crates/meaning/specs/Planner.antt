@@ -6,7 +6,8 @@
 --   nearestDown n d     n over d to the nearest whole number, a half down
 --   edgeFor s Q b r     the edge weight at radius r, from 0 to b
 --   originalFor s Q b   one pass of the original radius and the edge weight there
---   widened t           the stage t; where its edge weight is its inner weight, one radius more and no edge, which are the same taps
+--   wider t             one radius more than the stage t, and no edge
+--   widened t           that, where the edge weight of t is its inner weight; else t. The taps are the same
 --   stageFor s Q b      one pass of the plan found
 --   plannerRows s K b   the rows of the table of numbers
 --   planFor s K b       the call's outcome, a Planned
@@ -43,9 +44,12 @@ edgeFor s Q b r = nearestDown (edgeOver s Q b r) (edgeUnder s Q r)
 abbrev pub originalFor : ℕ → ℕ → ℕ → Stage
 originalFor s Q b = let r = radiusFor s Q in record { radius = r; inner = b; edge = edgeFor s Q b r }
 
+abbrev pub wider : Stage → Stage
+wider t = record { radius = t .radius + 1; inner = t .inner; edge = 0 }
+
 -- "if that gives b, answer radius r+1 and edge weight 0, which is the same kernel"
 unfoldable pub widened : Stage → Stage
-widened t = cond (eqb (t .edge) (t .inner)) (record { radius = t .radius + 1; inner = t .inner; edge = 0 }) t
+widened t = cond (eqb (t .edge) (t .inner)) (wider t) t
 
 unfoldable pub stageFor : ℕ → ℕ → ℕ → Stage
 stageFor s Q b = widened (originalFor s Q b)

@@ -6,6 +6,7 @@ use Prim.Native.Nat.{ℕ, _+_, _*_, _-_, _≤_, _<_}
 use native.Mathlib.Nat.{mul-le-mul}
 use native.Mathlib.Omega.{arith}
 use Rattle.meaning.specs.Limits.{maxPasses, maxSigma}
+use Rattle.meaning.specs.Planner.{edgeOver}
 use Rattle.theory.specs.Planner.{radius-fits, radius-most, edge-positive, least-Q}
 use Rattle.planner.specs.Ready.{Found}
 
@@ -19,7 +20,7 @@ pub record Fits (s K b r : ℕ) : Type 0 where
   pub small : Small s K r
   pub taps : b * (2 * r + 1) ≤ 225675
   pub numerator : r * (r + 1) * (10000 * K) ≤ 3 * (s * s)
-  pub large : b * (2 * r + 1) * (3 * (s * s) - r * (r + 1) * (10000 * K)) ≤ 443695104000000
+  pub large : edgeOver s (10000 * K) b r ≤ 443695104000000
   pub denominator : s * s < (r + 1) * (r + 1) * (10000 * K)
 
 pub small : {s K r : ℕ} → s ≤ maxSigma → K ≤ maxPasses → r ≤ 442 → Small s K r

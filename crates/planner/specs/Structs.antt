@@ -5,10 +5,9 @@ use Prim.Native.Nat.{ℕ, _+_, _*_}
 use mathlib.Core.Path.{_≡_, sym, _∙_}
 use mathlib.Core.Logic.{_≢_}
 use Rattle.meaning.specs.Kernel.{Stage}
-use Rattle.meaning.specs.Refusals as refusals
 use Rattle.meaning.specs.Refusals.{firstOf}
 use Rattle.meaning.specs.Planner as meant
-use Rattle.meaning.specs.Planner.{radiusFor, edgeFor, stageFor, plannerRows, planFor}
+use Rattle.meaning.specs.Planner.{radiusFor, edgeFor, wider, stageFor, plannerRows, planFor}
 use Rattle.meaning.specs.Bounds.{AllowedSigma}
 use Rattle.theory.specs.Refusals.{number-zero, ifDone-done, ifDone-refused}
 use Rattle.theory.specs.Planner.{stage-full, stage-below, sigma-allowed}
@@ -29,7 +28,7 @@ module _ (s K b : ℕ) {n : ℕ} (e : plain n ≡ firstOf (plannerRows s K b)) w
 
   module _ (z : n ≡ 0) {r a : ℕ} (f : r ≡ radiusFor s (10000 * K)) (g : a ≡ edgeFor s (10000 * K) b r) where
     pub plan-full : a ≡ b → plannedOf (record { number = n; radius = r + 1; edge = 0 }) ≡ planFor s K b
-    plan-full i = plan-done z {t = record { radius = r + 1; inner = b; edge = 0 }} (rw f (stage-full s (10000 * K) b (rw f at (sym g ∙ i))))
+    plan-full i = plan-done z {t = wider (record { radius = r; inner = b; edge = a })} (rw f (stage-full s (10000 * K) b (rw f at (sym g ∙ i))))
 
     pub plan-below : a ≢ b → plannedOf (record { number = n; radius = r; edge = a }) ≡ planFor s K b
     plan-below i = plan-done z {t = record { radius = r; inner = b; edge = a }} (rw (g, f) (stage-below s (10000 * K) b (λ j. i (g ∙ rw f j))))

@@ -6,7 +6,7 @@ ghost use Rattle.plan.specs.Structs.{plain};
 use crate::Planned;
 use plan::Plan;
 
-// Row 15 is not tested: where 1, 3 and 13 do not apply, no radius is above 442.
+// Row 15 is not tested: where 1, 3 and 13 do not apply, no radius answered is above 443.
 pub(crate) fn refusal(sigma: u64, passes: u64, inner: u64) -> u64
     ensures { λ r. ⌜ plain r ≡ firstOf (plannerRows sigma passes inner) ⌝ }
 {

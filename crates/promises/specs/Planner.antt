@@ -8,7 +8,7 @@
 --   stage c, found c   one pass of the radius and edge weight answered, and all passes
 --   LargestRadius s Q r     r is the largest whole number with r(r+1)Q <= 3s²
 --   off s Q b r n           how far edge weight n is from the survey's value at radius r, edgeOver over edgeUnder, times edgeUnder
---   NearestEdge s Q b r a   of all edge weights none is nearer to that value than a, and of two as near a is the lower; it is from 0 to b. In the value no difference is below 0, and edgeUnder is not 0
+--   NearestEdge s Q b r a   no whole number is nearer to that value than a, and of two as near a is the lower; it is at most b. In the value no difference is below 0, and edgeUnder is not 0
 --   Exactly            as of Smoothings
 --   planner-lowest     the number is 0, or that of a row that applies, and then the lowest of those
 --   planner-done, planner-allowed   it is 0 exactly where no row applies, and exactly where the bounds hold
@@ -17,6 +17,7 @@
 --   planner-radius, planner-edge   where it is done, the original radius is the largest that the rule allows, and the edge weight there the nearest
 --   planner-below, planner-full    these are answered, where that weight is below b; where it is b, one radius more and edge weight 0
 --   planner-taps, planner-kernel   the taps answered are the original ones at every offset, and so are the K-fold kernel and its divisor
+--   planner-survey     with the survey's value at the original radius for edge weight, before it is rounded, the variance is just that of the sigma given: the moment over the divisor is s²/10,000
 --   planner-plan       the plan answered is allowed
 --   planner-one        two outcomes that the contract allows are the same
 use Prim.Native.Nat.{ℕ, _+_, _*_, _≤_, _<_}
@@ -24,19 +25,20 @@ use mathlib.Core.Path.{_≡_, sym, ap, _∙_}
 use mathlib.Core.Logic.{_≢_}
 use mathlib.Core.List.{List}
 use lib.ListN.{replicate}
-use lib.IntN.{ℤ}
+use lib.IntN.{ℤ, pos, _*ℤ_}
 use contract.Lifetimes.{Lfts}
 use denote.Triple.Clauses.{AtExit}
 use borrow.Fn.Kinds.{Dens, resT, endedOf}
-use Rattle.meaning.specs.Kernel.{Stage, plan, tap, kernel, divisor}
+use Rattle.meaning.specs.Kernel.{Stage, plan, tap, kernel, divisor, moment}
 use Rattle.meaning.specs.Smoothing.{apart}
 use Rattle.meaning.specs.Refusals as meant
 use Rattle.meaning.specs.Refusals.{Row, firstOf, Applies}
 use Rattle.meaning.specs.Planner as outcomes
-use Rattle.meaning.specs.Planner.{edgeOver, edgeUnder, originalFor, stageFor, plannerRows, planFor}
+use Rattle.meaning.specs.Planner.{edgeOver, edgeUnder, originalFor, wider, stageFor, plannerRows, planFor}
 use Rattle.meaning.specs.Bounds.{AllowedPlan, AllowedSigma}
 use Rattle.theory.specs.Refusals.{number-lowest, number-none, ifDone-done, ifDone-refused}
-use Rattle.theory.specs.SameTaps.{kernel-taps, divisor-taps}
+use Rattle.theory.specs.SameTaps.{kernel-same, divisor-same}
+use Rattle.theory.specs.Survey.{surveyed, survey-exact}
 use Rattle.theory.specs.Planner as rule
 use Rattle.planner.specs.declared.Planned.{Planned}
 use Rattle.planner.specs.Structs.{plannedOf}
@@ -96,8 +98,8 @@ abbrev pub off : ℕ → ℕ → ℕ → ℕ → ℕ → ℕ
 off s Q b r n = apart (n * edgeUnder s Q r) (edgeOver s Q b r)
 
 pub record NearestEdge (s Q b r a : ℕ) : Type 0 where
-  pub over : r * (r + 1) * Q ≤ 3 * (s * s)
-  pub under : s * s < (r + 1) * (r + 1) * Q
+  pub fits : r * (r + 1) * Q ≤ 3 * (s * s)
+  pub positive : s * s < (r + 1) * (r + 1) * Q
   pub nearest : (n : ℕ) → off s Q b r a ≤ off s Q b r n
   pub lower : (n : ℕ) → off s Q b r n ≡ off s Q b r a → a ≤ n
   pub most : a ≤ b
@@ -151,8 +153,8 @@ module _ (c : PlannerCall) where
 
     pub planner-edge : NearestEdge (sigma c) (Q c) (inner c) (original c .radius) (original c .edge)
     planner-edge = record {
-      over = rule.radius-fits (sigma c) (Q c) q;
-      under = rule.edge-positive (sigma c) (Q c) q;
+      fits = rule.radius-fits (sigma c) (Q c) q;
+      positive = rule.edge-positive (sigma c) (Q c) q;
       nearest = rule.edge-nearest (sigma c) (Q c) q (inner c);
       lower = rule.edge-half (sigma c) (Q c) q (inner c);
       most = rule.edge-most (sigma c) (Q c) q (inner c);
@@ -161,14 +163,17 @@ module _ (c : PlannerCall) where
     pub planner-below : original c .edge ≢ inner c → stage c ≡ original c
     planner-below h = stage-is ∙ rule.stage-below (sigma c) (Q c) (inner c) h
 
-    pub planner-full : original c .edge ≡ inner c → stage c ≡ record { radius = original c .radius + 1; inner = inner c; edge = 0 }
+    pub planner-full : original c .edge ≡ inner c → stage c ≡ wider (original c)
     planner-full h = stage-is ∙ rule.stage-full (sigma c) (Q c) (inner c) h
 
     pub planner-taps : (m : ℤ) → tap (stage c) m ≡ tap (original c) m
     planner-taps m = ap (λ t. tap t m) stage-is ∙ rule.stage-taps (sigma c) (Q c) (inner c) m
 
     pub planner-kernel : ((m : ℤ) → kernel (found c) m ≡ kernel (replicate (passes c) (original c)) m) × (divisor (found c) ≡ divisor (replicate (passes c) (original c)))
-    planner-kernel = (kernel-taps (stage c) (original c) planner-taps (passes c), divisor-taps (stage c) (original c) planner-taps (passes c))
+    planner-kernel = (kernel-same (stage c) (original c) planner-taps (passes c), divisor-same (stage c) (original c) planner-taps (passes c))
+
+    pub planner-survey : pos 10000 *ℤ moment (surveyed (sigma c) (passes c) (inner c)) ≡ pos (sigma c * sigma c) *ℤ pos (divisor (surveyed (sigma c) (passes c) (inner c)))
+    planner-survey = survey-exact (sigma c) (passes c) (inner c) ok
 
     pub planner-plan : AllowedPlan (found c)
     planner-plan = rw stage-is (rule.planned-allowed (sigma c) (passes c) (inner c) ok)

@@ -19,9 +19,9 @@ use Rattle.meaning.specs.Limits.{least, maxPasses, maxRadius, maxInner, maxSigm
 use Rattle.meaning.specs.Kernel.{Stage}
 use Rattle.meaning.specs.Smoothing.{apart}
 use Rattle.meaning.specs.Refusals.{Answer, Row, _when_, firstOf, outside}
-use Rattle.meaning.specs.Planner.{largest, radiusFor, edgeOver, edgeUnder, edgeFor, originalFor, stageFor, plannerRows}
+use Rattle.meaning.specs.Planner.{largest, radiusFor, edgeOver, edgeUnder, edgeFor, originalFor, wider, stageFor, plannerRows}
 use Rattle.meaning.specs.Bounds.{AllowedStage, AllowedPlan, AllowedSigma}
-use Rattle.theory.specs.SameTaps.{SameTaps, widened-full, widened-below, widened-taps}
+use Rattle.theory.specs.SameTaps.{SameTaps, widened-full, widened-below, widened-either, widened-taps}
 use Rattle.theory.specs.Nearest.{down-nearest, down-half, down-most}
 use Rattle.theory.specs.Refusals.{done, Off, Numbered, Rising, done-off, off-done, append-off, first-parts}
 use Rattle.theory.specs.Tests.{outside-no, no-outside}
@@ -146,7 +146,7 @@ module _ (s Q : ℕ) where
 
 -- ---- one pass of the plan found
 module _ (s Q b : ℕ) where
-  pub stage-full : edgeFor s Q b (radiusFor s Q) ≡ b → stageFor s Q b ≡ record { radius = radiusFor s Q + 1; inner = b; edge = 0 }
+  pub stage-full : edgeFor s Q b (radiusFor s Q) ≡ b → stageFor s Q b ≡ wider (originalFor s Q b)
   unfolding stageFor
   stage-full = widened-full (originalFor s Q b)
 
@@ -155,11 +155,8 @@ module _ (s Q b : ℕ) where
   stage-below = widened-below (originalFor s Q b)
 
   pub stage-inner : stageFor s Q b .inner ≡ b
-  stage-inner = go (ℕ-discrete (edgeFor s Q b (radiusFor s Q)) b)
-    where
-      go : Dec (edgeFor s Q b (radiusFor s Q) ≡ b) → stageFor s Q b .inner ≡ b
-      go (yes e) = rw (stage-full e)
-      go (no e) = rw (stage-below e)
+  unfolding stageFor
+  stage-inner = widened-either (originalFor s Q b) (λ t. t .inner ≡ b) (λ e. refl) (λ e. refl)
 
   pub stage-taps : SameTaps (stageFor s Q b) (originalFor s Q b)
   unfolding stageFor
@@ -201,11 +198,11 @@ module _ (s K b : ℕ) where
     least-Q = omega (arith, ok .passes .0)
 
     allowed-stage : AllowedStage (stageFor s Q b)
-    allowed-stage = go (ℕ-discrete (edgeFor s Q b (radiusFor s Q)) b) (radius-most s Q least-Q (ok .sigma .1)) (edge-most s Q least-Q b)
-      where
-        go : Dec (edgeFor s Q b (radiusFor s Q) ≡ b) → radiusFor s Q ≤ 442 → edgeFor s Q b (radiusFor s Q) ≤ b → AllowedStage (stageFor s Q b)
-        go (yes e) l m = rw (stage-full s Q b e) (record { radius = omega arith; inner = ok .inner; edge = ok .inner .0 })
-        go (no e) l m = rw (stage-below s Q b e) (record { radius = omega arith; inner = ok .inner; edge = omega arith })
+    unfolding stageFor
+    allowed-stage =
+        let l = radius-most s Q least-Q (ok .sigma .1) in
+        let m = edge-most s Q least-Q b in
+        widened-either (originalFor s Q b) AllowedStage (λ e. record { radius = omega arith; inner = ok .inner; edge = ok .inner .0 }) (λ e. record { radius = omega arith; inner = ok .inner; edge = omega arith })
 
     pub allowed-sigma : firstOf rows ≡ done
     unfolding plannerRows

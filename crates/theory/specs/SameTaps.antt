@@ -1,10 +1,10 @@
 -- Stages of one and the same tap row, whatever their radius: their passes, sums and kernels are the same.
 --   SameTaps s t   the taps of s and t are equal at every offset
--- Laws: passAt-taps, tapSum-taps; kernel-taps, divisor-taps (of K equal stages);
--- widened-full, widened-below (what `widened` makes of a stage), widened-taps (its taps stay).
+-- Laws: passAt-same, tapSum-same; kernel-same, divisor-same (of K equal stages);
+-- widened-full, widened-below, widened-either (what `widened` makes of a stage), widened-taps (its taps stay).
 use mathlib.Core.Path.{_≡_, refl, sym, _∙_, ap}
 use mathlib.Core.Logic.{_≢_}
-use Prim.Native.Nat.{ℕ, zero, suc, _+_, _≤_, _<_}
+use Prim.Native.Nat.{ℕ, zero, suc, _+_, _≤_}
 use native.Mathlib.Decide.{ℕ-discrete, decLe}
 use native.Mathlib.Omega.{arith}
 use lib.ListN.{replicate}
@@ -13,7 +13,7 @@ use borrow.Author.Tests.{eq-eqb, ne-eqb}
 use Rattle.algebra.specs.Ring.{*ℤ-idr}
 use Rattle.algebra.specs.Within.{sumWithin, beyond-*, within-ext, within-wide}
 use Rattle.meaning.specs.Kernel.{Stage, tap, passAt, kernel, tapSum, divisor}
-use Rattle.meaning.specs.Planner.{widened}
+use Rattle.meaning.specs.Planner.{wider, widened}
 use Rattle.theory.specs.Kernel.{tap-inside, tap-edge, tap-outside, tapReach-width, kernel-cons}
 use Rattle.theory.specs.Convolution.{passAt-ext, passAt-const}
 use Rattle.theory.specs.Stages.{divisor-replicate}
@@ -22,9 +22,9 @@ abbrev pub SameTaps : Stage → Stage → Type 0
 SameTaps s t = (m : ℤ) → tap s m ≡ tap t m
 
 module _ (s t : Stage) (h : SameTaps s t) where
-  pub passAt-taps : (e : ℤ → ℤ) (n : ℤ) → passAt s e n ≡ passAt t e n
+  pub passAt-same : (e : ℤ → ℤ) (n : ℤ) → passAt s e n ≡ passAt t e n
   unfolding passAt
-  passAt-taps e n = wide s (omega arith) ∙ within-ext _ (λ j l. ap (λ z. z *ℤ e (n -ℤ j)) (h j)) ∙ sym (wide t (omega arith))
+  passAt-same e n = wide s (omega arith) ∙ within-ext _ (λ j l. ap (λ z. z *ℤ e (n -ℤ j)) (h j)) ∙ sym (wide t (omega arith))
     where
       R : ℕ
       R = suc (s .radius + t .radius)
@@ -32,25 +32,22 @@ module _ (s t : Stage) (h : SameTaps s t) where
       wide : (u : Stage) → suc (u .radius) ≤ R → sumWithin (suc (u .radius)) (λ j. tap u j *ℤ e (n -ℤ j)) ≡ sumWithin R (λ j. tap u j *ℤ e (n -ℤ j))
       wide u l = sym (within-wide _ R _ l (beyond-* (λ j. e (n -ℤ j)) (λ m k. tap-outside u m (omega (arith, tapReach-width u)))))
 
-  pub tapSum-taps : tapSum s ≡ tapSum t
-  tapSum-taps = let e : pos (tapSum s) ≡ pos (tapSum t) = sym (ones s) ∙ passAt-taps (λ x. pos 1) (pos 0) ∙ ones t in cc
+  pub tapSum-same : tapSum s ≡ tapSum t
+  tapSum-same = let e : pos (tapSum s) ≡ pos (tapSum t) = sym (ones s) ∙ passAt-same (λ x. pos 1) (pos 0) ∙ ones t in cc
     where
       ones : (u : Stage) → passAt u (λ x. pos 1) (pos 0) ≡ pos (tapSum u)
       ones u = passAt-const u (pos 1) (pos 0) ∙ *ℤ-idr (pos (tapSum u))
 
-  pub kernel-taps : (K : ℕ) (m : ℤ) → kernel (replicate K s) m ≡ kernel (replicate K t) m
-  kernel-taps zero m = refl
-  kernel-taps (suc K) m = kernel-cons s (replicate K s) m ∙ passAt-ext s (kernel-taps K) m ∙ passAt-taps (kernel (replicate K t)) m ∙ sym (kernel-cons t (replicate K t) m)
+  pub kernel-same : (K : ℕ) (m : ℤ) → kernel (replicate K s) m ≡ kernel (replicate K t) m
+  kernel-same zero m = refl
+  kernel-same (suc K) m = kernel-cons s (replicate K s) m ∙ passAt-ext s (kernel-same K) m ∙ passAt-same (kernel (replicate K t)) m ∙ sym (kernel-cons t (replicate K t) m)
 
-  pub divisor-taps : (K : ℕ) → divisor (replicate K s) ≡ divisor (replicate K t)
-  divisor-taps K = rw (divisor-replicate K s, divisor-replicate K t, tapSum-taps)
+  pub divisor-same : (K : ℕ) → divisor (replicate K s) ≡ divisor (replicate K t)
+  divisor-same K = rw (divisor-replicate K s, divisor-replicate K t, tapSum-same)
 
 -- ---- an edge weight that is the inner weight
 module _ (t : Stage) where
-  abbrev wider : Stage
-  wider = record { radius = t .radius + 1; inner = t .inner; edge = 0 }
-
-  pub widened-full : t .edge ≡ t .inner → widened t ≡ wider
+  pub widened-full : t .edge ≡ t .inner → widened t ≡ wider t
   unfolding widened
   widened-full e = rw (eq-eqb _ _ e)
 
@@ -58,17 +55,20 @@ module _ (t : Stage) where
   unfolding widened
   widened-below e = rw (ne-eqb _ _ e)
 
-  wider-taps : t .edge ≡ t .inner → SameTaps wider t
+  pub widened-either : (P : Stage → Type 0) → (t .edge ≡ t .inner → P (wider t)) → (t .edge ≢ t .inner → P t) → P (widened t)
+  widened-either P f g = go (ℕ-discrete (t .edge) (t .inner))
+    where
+      go : Dec (t .edge ≡ t .inner) → P (widened t)
+      go (yes e) = rw (widened-full e) (f e)
+      go (no e) = rw (widened-below e) (g e)
+
+  wider-taps : t .edge ≡ t .inner → SameTaps (wider t) t
   wider-taps e m = go (decLe (natAbs m) (t .radius)) (ℕ-discrete (natAbs m) (suc (t .radius)))
     where
-      go : Dec (natAbs m ≤ t .radius) → Dec (natAbs m ≡ suc (t .radius)) → tap wider m ≡ tap t m
-      go (yes l) d = tap-inside wider m (omega arith) ∙ sym (tap-inside t m l)
-      go (no l) (yes i) = tap-inside wider m (omega arith) ∙ ap pos (sym e) ∙ sym (tap-edge t m i)
-      go (no l) (no i) = tap-outside wider m (omega arith) ∙ sym (tap-outside t m (omega (arith, tapReach-width t)))
+      go : Dec (natAbs m ≤ t .radius) → Dec (natAbs m ≡ suc (t .radius)) → tap (wider t) m ≡ tap t m
+      go (yes l) d = tap-inside (wider t) m (omega arith) ∙ sym (tap-inside t m l)
+      go (no l) (yes i) = tap-inside (wider t) m (omega arith) ∙ ap pos (sym e) ∙ sym (tap-edge t m i)
+      go (no l) (no i) = tap-outside (wider t) m (omega arith) ∙ sym (tap-outside t m (omega (arith, tapReach-width t)))
 
   pub widened-taps : SameTaps (widened t) t
-  widened-taps m = go (ℕ-discrete (t .edge) (t .inner))
-    where
-      go : Dec (t .edge ≡ t .inner) → tap (widened t) m ≡ tap t m
-      go (yes e) = rw (widened-full e) (wider-taps e m)
-      go (no e) = rw (widened-below e)
+  widened-taps = widened-either (λ u. SameTaps u t) wider-taps (λ e m. refl)
