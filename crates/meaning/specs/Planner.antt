@@ -1,10 +1,10 @@
--- From a standard deviation of s hundredths to radius and edge weight, for K passes with inner weight b; Q is 10,000 K. Beside document 01 its page is document 02.
+-- From a standard deviation of s hundredths to radius and edge weight, for K passes with inner weight b; Q is 10,000 K. Which whole edge weight is taken is of document 02.
 --   largest n t         the largest of 0 .. n where the test t is true; 0 where there is none
 --   radiusFor s Q       the original radius
---   edgeOver s Q b r    the survey's value at radius r, its edge weight over b, is this over ..
---   edgeUnder s Q r     .. this
---   nearestDown n d     n over d to the nearest whole number, a half down
---   edgeFor s Q b r     the edge weight at radius r, from 0 to b
+--   edgeOver s Q b r    the survey's value at radius r, its edge weight for inner weight b, is this over edgeUnder ..
+--   edgeUnder s Q r     .. which is above 0 at the original radius
+--   nearestDown n d     n over d to the nearest whole number, a half down; d is above 0
+--   edgeFor s Q b r     the edge weight at radius r; at the original radius from 0 to b
 --   originalFor s Q b   one pass of the original radius and the edge weight there
 --   wider t             one radius more than the stage t, and no edge
 --   widened t           that, where the edge weight of t is its inner weight; else t. The taps are the same
