@@ -50,8 +50,9 @@ const COARSE = [2, 25, 50, 99, 158, 250, 400, 666, 1000, 1600, 2503, 4000, 6400,
 const PLANNER_GRID = INNERS.flatMap((inner) => EVERY_PASSES.flatMap((passes) => (
   COARSE.map((sigma) => plannerCase('coarse grid', sigma, passes, inner)))));
 
-// Inner weight, passes, and every sigma whose survey's value is a whole number and a half. With inner weight 1 that is
-// between 0 and the inner weight: a half going up would be one radius more.
+// Inner weight, passes, and every sigma whose survey's value is a whole number and a half; passes that an inner weight
+// does not have here have none. With inner weight 1 that is between 0 and the inner weight: a half going up would be
+// one radius more.
 const HALVES = [
   [1, 2, [100, 900, 8900]],
   [1, 6, [300, 1700, 9900]],
@@ -78,7 +79,7 @@ const HALVES = [
 const PLANNER_HALVES = HALVES.flatMap(([inner, passes, sigmas]) => (
   sigmas.map((sigma) => plannerCase(HALF, sigma, passes, inner))));
 
-// Inner weight, and by passes the first sigma for which the inner weight itself is nearest; further down some last ones.
+// Inner weight, and by passes the first sigma for which the inner weight itself is nearest.
 const FULL_EDGES = [
   [1, [71, 101, 123, 142, 159, 174, 188, 201]],
   [2, [78, 110, 135, 155, 174, 190, 205, 220]],
@@ -91,6 +92,7 @@ const PLANNER_FULL = [
     plannerCase(BELOW_FULL, sigma - 1, n + 1, inner),
     plannerCase(FULL, sigma, n + 1, inner),
   ])),
+  // The last such sigmas of their passes and inner weight.
   plannerCase(FULL, 25_600, 1, 1),
   plannerCase(FULL, 25_556, 8, 16),
   plannerCase(FULL, 25_597, 2, 255),

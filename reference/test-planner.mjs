@@ -2,11 +2,15 @@
 import { planner } from './calls.mjs';
 import { BELOW_FULL, FULL, HALF } from './cases-planner.mjs';
 import { casesOf } from './cases.mjs';
+import { MOST_PASSES, MOST_SIGMA } from './limits.mjs';
 import { divisorOf, kernelOf, reachOf, surveyEdge } from './smoothing.mjs';
 import { decoded } from './stream.mjs';
 import { holds, plan, same } from './testing.mjs';
 
 const PLANNER = 5;
+const upTo = (most) => Array.from({ length: Number(most) }, (_, n) => BigInt(n + 1));
+const EVERY_PASSES = upTo(MOST_PASSES);
+const EVERY_SIGMA = upTo(MOST_SIGMA);
 
 // The largest r with r(r+1)Q <= 3s², by counting up.
 function originalRadius(sigma, passes) {
@@ -55,13 +59,40 @@ function fullEdgeFact(radius, inner, passes) {
   same(`${name}, numbers`, [divisorOf(wider), reachOf(wider)], [divisorOf(full), reachOf(full)]);
 }
 
+function isHalf({ over, under }) {
+  return (2n * over) % under === 0n && over % under !== 0n;
+}
+
 function caseFacts({ note, args, outcome }) {
   const name = `${note} ${Object.values(args)}`;
   const { radius, over, under } = surveyEdge(args.sigma, args.passes, args.inner);
   nearestFact(args);
-  if (note === HALF) holds(name, (2n * over) % under === 0n && over % under !== 0n);
+  if (note === HALF) holds(name, isHalf({ over, under }));
   if (note === FULL) same(name, outcome.radius, radius + 1n);
   if (note === BELOW_FULL) same(name, outcome.radius, radius);
+}
+
+// Sigmas of the cases with this note, for each inner weight and every number of passes.
+function noted(cases, name) {
+  const those = cases.filter(({ note }) => note === name).map(({ args }) => args);
+  return [...new Set(those.map(({ inner }) => inner))].flatMap((inner) => EVERY_PASSES.map((passes) => ({
+    inner,
+    passes,
+    sigmas: those.filter((each) => each.inner === inner && each.passes === passes).map(({ sigma }) => sigma),
+  })));
+}
+
+// The cases have every half, and of full edges the first, and the last where they have two.
+function everyFacts(cases) {
+  for (const { inner, passes, sigmas } of noted(cases, HALF)) {
+    const all = EVERY_SIGMA.filter((sigma) => isHalf(surveyEdge(sigma, passes, inner)));
+    same(`halves of ${inner} ${passes}`, sigmas, all);
+  }
+  for (const { inner, passes, sigmas: [first, ...last] } of noted(cases, FULL)) {
+    const full = (sigma) => planner({ sigma, passes, inner }).radius > originalRadius(sigma, passes);
+    same(`first full edge of ${inner} ${passes}`, first, EVERY_SIGMA.find(full));
+    if (last.length > 0) same(`last full edge of ${inner} ${passes}`, last, [EVERY_SIGMA.findLast(full)]);
+  }
 }
 
 export function testPlanner() {
@@ -75,5 +106,6 @@ export function testPlanner() {
   }
   const cases = casesOf(PLANNER).map(({ note, words }) => ({ note, ...decoded(words) }));
   cases.filter(({ outcome }) => outcome.number === 0n).forEach(caseFacts);
+  everyFacts(cases);
   same('largest radius', planner({ sigma: 25_600n, passes: 1n, inner: 1n }).radius, 443);
 }

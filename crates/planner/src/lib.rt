@@ -18,7 +18,7 @@ impl Planned {
     pub const MAX_SIGMA: u64 = 25600;
 }
 
-// Radius and edge weight by the rule, for so many passes with this inner weight.
+// Radius and edge weight by the rule, for so many passes with this inner weight: no other edge weight is nearer to the one that gives just this deviation.
 pub fn plan_for(sigma_hundredths: u64, passes: u64, inner: u64) -> Planned
     ensures { λ r. ⌜ plannedOf r ≡ planFor «sigma_hundredths» passes inner ⌝ }
 {

@@ -42,6 +42,7 @@
 --   Stored       what an edit leaves of a stored smoothing
 --   Farthest     how far an accepted plan reaches at most
 --   Programs     what the program prints
+--   Widened      an edge weight that is the inner weight
 --   Planner      the planner's rule
 --   Survey       what the survey's edge weight is
 -- A law over an index map φ takes `F : Folding φ`, where it speaks of reach `C : Nearness φ`, and of totals `B : Balanced φ`:
@@ -90,5 +91,6 @@ pub mod AcceptedDoubles
 pub mod Stored
 pub mod Farthest
 pub mod Programs
+pub mod Widened
 pub mod Planner
 pub mod Survey

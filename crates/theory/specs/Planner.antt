@@ -21,7 +21,8 @@ use Rattle.meaning.specs.Smoothing.{apart}
 use Rattle.meaning.specs.Refusals.{Answer, Row, _when_, firstOf, outside}
 use Rattle.meaning.specs.Planner.{largest, radiusFor, edgeOver, edgeUnder, edgeFor, originalFor, wider, stageFor, plannerRows}
 use Rattle.meaning.specs.Bounds.{AllowedStage, AllowedPlan, AllowedSigma}
-use Rattle.theory.specs.SameTaps.{SameTaps, widened-full, widened-below, widened-either, widened-taps}
+use Rattle.theory.specs.SameTaps.{SameTaps}
+use Rattle.theory.specs.Widened.{widened-full, widened-below, widened-either, widened-taps}
 use Rattle.theory.specs.Nearest.{down-nearest, down-half, down-most}
 use Rattle.theory.specs.Refusals.{done, Off, Numbered, Rising, done-off, off-done, append-off, first-parts}
 use Rattle.theory.specs.Tests.{outside-no, no-outside}

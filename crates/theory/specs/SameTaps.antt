@@ -1,20 +1,15 @@
 -- Stages of one and the same tap row, whatever their radius: their passes, sums and kernels are the same.
 --   SameTaps s t   the taps of s and t are equal at every offset
--- Laws: passAt-same, tapSum-same; kernel-same, divisor-same (of K equal stages);
--- widened-full, widened-below, widened-either (what `widened` makes of a stage), widened-taps (its taps stay).
+-- Laws: passAt-same, tapSum-same; kernel-same, divisor-same (of K equal stages).
 use mathlib.Core.Path.{_≡_, refl, sym, _∙_, ap}
-use mathlib.Core.Logic.{_≢_}
 use Prim.Native.Nat.{ℕ, zero, suc, _+_, _≤_}
-use native.Mathlib.Decide.{ℕ-discrete, decLe}
 use native.Mathlib.Omega.{arith}
 use lib.ListN.{replicate}
-use lib.IntN.{ℤ, pos, natAbs, _-ℤ_, _*ℤ_}
-use borrow.Author.Tests.{eq-eqb, ne-eqb}
+use lib.IntN.{ℤ, pos, _-ℤ_, _*ℤ_}
 use Rattle.algebra.specs.Ring.{*ℤ-idr}
 use Rattle.algebra.specs.Within.{sumWithin, beyond-*, within-ext, within-wide}
 use Rattle.meaning.specs.Kernel.{Stage, tap, passAt, kernel, tapSum, divisor}
-use Rattle.meaning.specs.Planner.{wider, widened}
-use Rattle.theory.specs.Kernel.{tap-inside, tap-edge, tap-outside, tapReach-width, kernel-cons}
+use Rattle.theory.specs.Kernel.{tap-outside, tapReach-width, kernel-cons}
 use Rattle.theory.specs.Convolution.{passAt-ext, passAt-const}
 use Rattle.theory.specs.Stages.{divisor-replicate}
 
@@ -44,31 +39,3 @@ module _ (s t : Stage) (h : SameTaps s t) where
 
   pub divisor-same : (K : ℕ) → divisor (replicate K s) ≡ divisor (replicate K t)
   divisor-same K = rw (divisor-replicate K s, divisor-replicate K t, tapSum-same)
-
--- ---- an edge weight that is the inner weight
-module _ (t : Stage) where
-  pub widened-full : t .edge ≡ t .inner → widened t ≡ wider t
-  unfolding widened
-  widened-full e = rw (eq-eqb _ _ e)
-
-  pub widened-below : t .edge ≢ t .inner → widened t ≡ t
-  unfolding widened
-  widened-below e = rw (ne-eqb _ _ e)
-
-  pub widened-either : (P : Stage → Type 0) → (t .edge ≡ t .inner → P (wider t)) → (t .edge ≢ t .inner → P t) → P (widened t)
-  widened-either P f g = go (ℕ-discrete (t .edge) (t .inner))
-    where
-      go : Dec (t .edge ≡ t .inner) → P (widened t)
-      go (yes e) = rw (widened-full e) (f e)
-      go (no e) = rw (widened-below e) (g e)
-
-  wider-taps : t .edge ≡ t .inner → SameTaps (wider t) t
-  wider-taps e m = go (decLe (natAbs m) (t .radius)) (ℕ-discrete (natAbs m) (suc (t .radius)))
-    where
-      go : Dec (natAbs m ≤ t .radius) → Dec (natAbs m ≡ suc (t .radius)) → tap (wider t) m ≡ tap t m
-      go (yes l) d = tap-inside (wider t) m (omega arith) ∙ sym (tap-inside t m l)
-      go (no l) (yes i) = tap-inside (wider t) m (omega arith) ∙ ap pos (sym e) ∙ sym (tap-edge t m i)
-      go (no l) (no i) = tap-outside (wider t) m (omega arith) ∙ sym (tap-outside t m (omega (arith, tapReach-width t)))
-
-  pub widened-taps : SameTaps (widened t) t
-  widened-taps = widened-either (λ u. SameTaps u t) wider-taps (λ e m. refl)
