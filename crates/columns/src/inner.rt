@@ -12,16 +12,18 @@ ghost use Rattle.meaning.specs.Picture as P;
 ghost use Rattle.plan.specs.Structs.{stageOf};
 ghost use Rattle.plan.specs.Tested.{Tested};
 ghost use Rattle.columns.specs.Ready.{Addable, added, Around, Begins, Passable, passed, stepped};
+use extension::inner::next;
+use extension::inner::periods_before;
 use plan::Plan;
 
-// Where the row begins that the extension has at n - d.
-fn row_at(n: usize, d: usize, width: usize, height: usize) -> usize
+// Where the row begins that stands at a place of the extension.
+fn row_at(place: usize, width: usize, height: usize) -> usize
     requires { ⌜ 1 ≤ width ⌝ }
-    requires { ⌜ 1 ≤ height ⌝ }
+    requires { ⌜ place < 2 * height ⌝ }
     requires { ⌜ width * height ≤ maxLength ⌝ }
-    ensures { λ r. ⌜ Begins width height (pos n -ℤ pos d) r ⌝ }
+    ensures { λ r. ⌜ Begins width height (pos place) r ⌝ }
 {
-    extension::inner::fold_behind(n, d, height) * width
+    extension::inner::reflect(place, height) * width
 }
 
 // Adds to each cell of row its weighted cell of the row of src that begins at start.
@@ -37,53 +39,48 @@ fn add_row(weight: i64, src: &[i64], start: usize, row: &mut [i64])
     }
 }
 
-// Row 0 of the pass: the weighted window, and the weighted rows beside it.
-fn first_row(plan: Plan, width: usize, height: usize, src: &[i64], row: &mut [i64])
-    requires { ⌜ Passable plan width height (now src) (width * height) ⌝ }
-    requires { ⌜ length (now row) ≡ width ⌝ }
-    ensures { λ _. ⌜ now (row .exit) ≡ P.row width (passed plan width height (now (src .entry))) 0 ⌝ }
+// Adds so many rows, those at the places from 0 on, each times the weight.
+fn add_rows(weight: i64, width: usize, height: usize, count: usize, src: &[i64], row: &mut [i64])
+    requires { ⌜ RowsAddable weight width height count (now src) (now row) ⌝ }
+    ensures { λ _. ⌜ now (row .exit) ≡ listOf width (rowsAdded weight width height count (now (src .entry)) (now (row .entry))) ⌝ }
 {
-    let radius = plan.radius as usize;
-    let inner = plan.inner as i64;
-    let edge = plan.edge as i64;
-    pass::inner::clear(row);
     let mut k: usize = 0;
-    while k < 2 * radius + 1 {
-        let start = row_at(k, radius, width, height);
-        add_row(inner, src, start, row);
+    while k < count {
+        let start = row_at(k, width, height);
+        add_row(weight, src, start, row);
         k += 1;
     }
-    add_row(edge, src, row_at(0, radius + 1, width, height), row);
-    add_row(edge, src, row_at(radius + 1, 0, width, height), row);
 }
 
-// Where the rows begin that make row y + 1 of the pass from row y: low and high at the edges of the window, the others within.
-struct Starts {
-    low: usize,
-    leaves: usize,
-    enters: usize,
-    high: usize,
-}
-
-fn rows_around(plan: Plan, width: usize, height: usize, y: usize) -> Starts
-    requires { ⌜ Tested plan ⌝ }
-    requires { ⌜ 1 ≤ width ⌝ }
-    requires { ⌜ width * height ≤ maxLength ⌝ }
-    requires { ⌜ y + 1 < height ⌝ }
-    ensures { λ r. ⌜ Around plan width height y (r .low) (r .leaves) (r .enters) (r .high) ⌝ }
+// Whole periods of rows on either side of row 0, weighed: one period, so many times.
+fn whole_periods(plan: Plan, periods: usize, width: usize, height: usize, src: &[i64], row: &mut [i64])
+    requires { ⌜ Passable plan width height (now src) (width * height) ⌝ }
+    requires { ⌜ length (now row) ≡ width ⌝ }
+    requires { ⌜ periods * (2 * height) ≤ plan .radius ⌝ }
+    ensures { λ _. ⌜ now (row .exit) ≡ listOf width (λ x. sides (stageOf plan) (line width height (now (src .entry)) x) (periods * (2 * height))) ⌝ }
 {
-    let radius = plan.radius as usize;
-    let beyond = y + radius + 2;
-    let low = row_at(y, radius + 1, width, height);
-    let leaves = row_at(y, radius, width, height);
-    let enters = row_at(beyond, 1, width, height);
-    let high = row_at(beyond, 0, width, height);
-    Starts {
-        low,
-        leaves,
-        enters,
-        high,
+    pass::inner::clear(row);
+    if periods == 0 {
+        return;
     }
+    let weight = (2 * plan.inner * (periods as u64)) as i64;
+    add_rows(weight, width, height, 2 * height, src, row);
+}
+
+// Row 0 of the pass, whose radius is so many whole periods and a rest. What stands at -1 - j stands at j: so it is twice the rows from 0 up to the radius,
+// and one row at the radius, all within the window, and at its edges the row at the radius and the next.
+fn first_row(plan: Plan, whole: usize, rest: usize, width: usize, height: usize, src: &[i64], row: &mut [i64])
+    requires { ⌜ Passable plan width height (now src) (width * height) ⌝ }
+    requires { ⌜ length (now row) ≡ width ⌝ }
+    requires { ⌜ plan .radius ≡ whole * (2 * height) + rest ⌝ }
+    requires { ⌜ rest < 2 * height ⌝ }
+    ensures { λ _. ⌜ now (row .exit) ≡ P.row width (passed plan width height (now (src .entry))) 0 ⌝ }
+{
+    whole_periods(plan, whole, width, height, src, row);
+    add_rows((2 * plan.inner) as i64, width, height, rest, src, row);
+    add_row((plan.inner + plan.edge) as i64, src, row_at(rest, width, height), row);
+    let beyond = next(rest, height);
+    add_row(plan.edge as i64, src, row_at(beyond, width, height), row);
 }
 
 // How much more cell i holds than cell j.
@@ -110,18 +107,25 @@ fn step(plan: Plan, v: i64, edges: i64, within: i64) -> i64
     v + edge * edges + rise * within
 }
 
-// Row y + 1 of the pass, where those before it are written. No cell of it waits for another.
-fn next_row(plan: Plan, width: usize, height: usize, y: usize, src: &[i64], dst: &mut [i64])
+// Row y + 1 of the pass, where those before it are written, from the row above it and the rows that begin at low and high, at the edges of the
+// window, and at leaves and enters, within. No cell of it waits for another.
+fn next_row(
+    plan: Plan,
+    width: usize,
+    height: usize,
+    y: usize,
+    low: usize,
+    leaves: usize,
+    enters: usize,
+    high: usize,
+    src: &[i64],
+    dst: &mut [i64],
+)
     requires { ⌜ Passable plan width height (now src) (length (now dst)) ⌝ }
-    requires { ⌜ y + 1 < height ⌝ }
+    requires { ⌜ Around plan width height y low leaves enters high ⌝ }
     requires { ⌜ take (y * width + width) (now dst) ≡ take (y * width + width) (passed plan width height (now src)) ⌝ }
     ensures { λ _. ⌜ take (y * width + width + width) (now (dst .exit)) ≡ take (y * width + width + width) (passed plan width height (now (src .entry))) ⌝ }
 {
-    let rows = rows_around(plan, width, height, y);
-    let low = rows.low;
-    let leaves = rows.leaves;
-    let enters = rows.enters;
-    let high = rows.high;
     let from = y * width;
     let to = from + width;
     let mut x: usize = 0;
@@ -134,15 +138,26 @@ fn next_row(plan: Plan, width: usize, height: usize, y: usize, src: &[i64], dst:
     }
 }
 
-// One pass of src into dst, every cell of it.
+// One pass of src into dst, every cell of it. Two rows walk the extension: low, before the window, and enters, behind it.
 pub fn pass(plan: Plan, width: usize, height: usize, src: &[i64], dst: &mut [i64])
     requires { ⌜ Passable plan width height (now src) (length (now dst)) ⌝ }
     ensures { λ _. ⌜ now (dst .exit) ≡ passed plan width height (now (src .entry)) ⌝ }
 {
-    first_row(plan, width, height, src, &mut dst[0..width]);
+    let at = periods_before(plan.radius as usize, height);
+    first_row(plan, at.whole, at.rest, width, height, src, &mut dst[0..width]);
+    let mut low = 2 * height - 1 - at.rest;
+    let mut enters = next(at.rest, height);
     let mut y: usize = 0;
     while y + 1 < height {
-        next_row(plan, width, height, y, src, dst);
+        let leaves = next(low, height);
+        let high = next(enters, height);
+        let a = row_at(low, width, height);
+        let b = row_at(leaves, width, height);
+        let c = row_at(enters, width, height);
+        let d = row_at(high, width, height);
+        next_row(plan, width, height, y, a, b, c, d, src, dst);
+        low = leaves;
+        enters = high;
         y += 1;
     }
 }

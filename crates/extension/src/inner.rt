@@ -1,49 +1,57 @@
-// A series continued beyond its ends, read at any place.
+// Walking a series continued beyond its ends. The extension of len cells repeats after 2 len, so one stands at one of 0 to 2 len - 1:
+// forward through the cells in the first half, and back in the second.
 ghost use mathlib.Core.Path.{_≡_};
-ghost use Prim.Native.Nat.{_*_, _^_, _≤_, _<_};
+ghost use Prim.Native.Nat.{_+_, _*_, _^_, _≤_, _<_};
 ghost use lib.ListN.{length};
-ghost use lib.IntN.{pos, _-ℤ_};
+ghost use lib.IntN.{pos};
 ghost use Rattle.meaning.specs.Extension.{fold, ext};
+ghost use Rattle.theory.specs.Walk.{Stands};
 
-// Which of len cells the extension has at i.
-fn fold_at(i: usize, len: usize) -> usize
+pub struct Periods {
+    pub whole: usize,
+    pub rest: usize,
+}
+
+// How many whole periods lie before i, and where it stands in its own.
+pub fn periods_before(i: usize, len: usize) -> Periods
     requires { ⌜ 1 ≤ len ⌝ }
     requires { ⌜ 2 * len < 2 ^ 64 ⌝ }
-    ensures { λ r. ⌜ r ≡ fold len (pos i) ⌝ }
+    ensures { λ r. ⌜ i ≡ r .whole * (2 * len) + r .rest ⌝ }
+    ensures { λ r. ⌜ r .rest < 2 * len ⌝ }
 {
+    let period = 2 * len;
     // spares the division
-    if i < len {
-        return i;
+    if i < period {
+        return Periods { whole: 0, rest: i };
     }
-    let m = i % (2 * len);
-    if m < len { m } else { 2 * len - 1 - m }
+    let whole = i / period;
+    let rest = i - whole * period;
+    Periods { whole, rest }
 }
 
-// Which of len cells the extension has at n - d. What stands at -1 - j stands at j too.
-pub fn fold_behind(n: usize, d: usize, len: usize) -> usize
-    requires { ⌜ 1 ≤ len ⌝ }
+// One on from a place.
+pub fn next(place: usize, len: usize) -> usize
+    requires { ⌜ place < 2 * len ⌝ }
     requires { ⌜ 2 * len < 2 ^ 64 ⌝ }
-    ensures { λ r. ⌜ r ≡ fold len (pos n -ℤ pos d) ⌝ }
+    ensures { λ r. ⌜ Stands len (pos (place + 1)) r ⌝ }
 {
-    if d <= n {
-        fold_at(n - d, len)
-    } else {
-        fold_at(d - n - 1, len)
-    }
+    let on = place + 1;
+    if on == 2 * len { 0 } else { on }
 }
 
-// The extension of src at n - d.
-pub fn behind(src: &[i64], n: usize, d: usize) -> i64
-    requires { ⌜ 1 ≤ length (now src) ⌝ }
-    ensures { λ r. ⌜ r ≡ ext fold (now (src .entry)) (pos n -ℤ pos d) ⌝ }
+// Which of len cells stands at a place.
+pub fn reflect(place: usize, len: usize) -> usize
+    requires { ⌜ place < 2 * len ⌝ }
+    requires { ⌜ 2 * len < 2 ^ 64 ⌝ }
+    ensures { λ r. ⌜ r ≡ fold len (pos place) ⌝ }
 {
-    src[fold_behind(n, d, src.len())]
+    if place < len { place } else { 2 * len - 1 - place }
 }
 
-// The extension of src at i.
-pub fn ahead(src: &[i64], i: usize) -> i64
-    requires { ⌜ 1 ≤ length (now src) ⌝ }
-    ensures { λ r. ⌜ r ≡ ext fold (now (src .entry)) (pos i) ⌝ }
+// What stands at a place.
+pub fn read(src: &[i64], place: usize) -> i64
+    requires { ⌜ place < 2 * length (now src) ⌝ }
+    ensures { λ r. ⌜ r ≡ ext fold (now (src .entry)) (pos place) ⌝ }
 {
-    behind(src, i, 0)
+    src[reflect(place, src.len())]
 }

@@ -1,5 +1,9 @@
 -- The words of this crate's contracts, and the laws of its loops.
---   Ready   what a pass asks
---   Turn    one turn of a pass
+--   Ready    what a pass asks, and how far it has come
+--   Turn     one turn of a pass
+--   First    the first window
+--   Course   from cell to cell
 pub mod Ready
 pub mod Turn
+pub mod First
+pub mod Course

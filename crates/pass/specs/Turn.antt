@@ -5,7 +5,7 @@
 --   Turn s e n b a w lo first hi   the locals of the pass at cell n: b and a the weights, w the window, lo and hi the cells
 --                                  on either side, first the one that leaves
 -- Laws: windowed (room for a pass is room for its windows), room-step (and for each of its steps), room-fits; widened-is, pair-fits, widened-fits; cell-is, cell-fits, low-next, slide-is, slide-fits;
--- summable, window-room, pass-room (of a series, what the words of Ready say).
+-- pass-room, summable (of a series, what the words of Ready say).
 use Prim.Native.Nat.{ℕ, suc, _+_, _*_, _≤_, _<_}
 use mathlib.Core.Path.{_≡_, sym, _∙_, ap, ap₂}
 use mathlib.Core.List.{List}
@@ -113,13 +113,10 @@ module _ {s : Stage} {e : ℤ → ℤ} {n : ℕ} {b a w lo first hi : ℤ} (t : 
     slide-fits = rw (slide-is, t .sum, t .enters) (room-fits (room-step h .entered _ _), room-fits (room-step h .held _))
 
 -- ---- of a series
-pub window-room : {r : ℕ} {f : List ℤ} → Summable r f → Windowed r (ext fold f)
-window-room h = record { largest = h .largest; size = ext-size fold (h .sized); room = h .room }
-
 module _ {p : Plan} {f : List ℤ} {N : ℕ} (h : Passable p f N) where
   pub pass-room : Roomy (stageOf p) (ext fold f)
   pass-room = record { some = h .plan .inner .0; largest = h .largest; size = ext-size fold (h .sized); room = h .room }
 
-  pub summable : Summable (p .radius) f
+  pub summable : {k : ℕ} → k ≡ 2 * p .radius + 1 → Summable k f
   unfolding windowed pass-room
-  summable = record { some = h .some; largest = h .largest; sized = h .sized; room = windowed pass-room .room }
+  summable e = record { some = h .some; few = omega (arith, h .plan .radius); largest = h .largest; sized = h .sized; room = rw e (windowed pass-room .room) }

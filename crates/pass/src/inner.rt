@@ -4,31 +4,14 @@ ghost use lib.ListN.{length, replicate};
 ghost use lib.IntN.{pos, _+ℤ_, _-ℤ_, _*ℤ_};
 ghost use mir.Syntax.{w64};
 ghost use mir.Val.{SFits};
-ghost use Rattle.meaning.specs.Extension.{fold, ext};
+ghost use Rattle.meaning.specs.Extension.{fold};
 ghost use Rattle.meaning.specs.Smoothing as S;
-ghost use Rattle.theory.specs.Slide.{window};
 ghost use Rattle.plan.specs.Structs.{stageOf};
-ghost use Rattle.pass.specs.Ready.{Summable, Passable};
-use extension::inner::ahead;
-use extension::inner::behind;
+ghost use Rattle.plan.specs.Tested.{Tested};
+ghost use Rattle.pass.specs.Ready.{Passable};
+use extension::inner::next;
+use extension::inner::periods_before;
 use plan::Plan;
-
-// The window around 0, from the centre outward: what stands at -(j + 1) is what stood at j.
-fn first_window(src: &[i64], radius: usize) -> i64
-    requires { ⌜ Summable radius (now src) ⌝ }
-    ensures { λ r. ⌜ r ≡ window (ext fold (now (src .entry))) radius (pos 0) ⌝ }
-{
-    let mut lo = ahead(src, 0);
-    let mut s = lo;
-    let mut j: usize = 0;
-    while j < radius {
-        let hi = ahead(src, j + 1);
-        s += lo + hi;
-        lo = hi;
-        j += 1;
-    }
-    s
-}
 
 // A window and the cells beside it, weighed.
 pub fn cell(inner: i64, edge: i64, w: i64, lo: i64, hi: i64) -> i64
@@ -41,6 +24,18 @@ pub fn cell(inner: i64, edge: i64, w: i64, lo: i64, hi: i64) -> i64
     inner * w + edge * (lo + hi)
 }
 
+// The same by the weights of a plan.
+pub(crate) fn weigh(plan: Plan, w: i64, lo: i64, hi: i64) -> i64
+    requires { ⌜ Tested plan ⌝ }
+    requires { ⌜ SFits w64 (pos (plan .inner) *ℤ w) ⌝ }
+    requires { ⌜ SFits w64 (lo +ℤ hi) ⌝ }
+    requires { ⌜ SFits w64 (pos (plan .edge) *ℤ (lo +ℤ hi)) ⌝ }
+    requires { ⌜ SFits w64 (pos (plan .inner) *ℤ w +ℤ pos (plan .edge) *ℤ (lo +ℤ hi)) ⌝ }
+    ensures { λ r. ⌜ r ≡ pos (plan .inner) *ℤ w +ℤ pos (plan .edge) *ℤ (lo +ℤ hi) ⌝ }
+{
+    cell(plan.inner as i64, plan.edge as i64, w, lo, hi)
+}
+
 // The window one cell on: hi enters, first leaves.
 pub fn slide(w: i64, hi: i64, first: i64) -> i64
     requires { ⌜ SFits w64 (w +ℤ hi) ⌝ }
@@ -50,26 +45,25 @@ pub fn slide(w: i64, hi: i64, first: i64) -> i64
     w + hi - first
 }
 
-// One pass of src into dst, every cell of it. What leaves the window is the next cell on its low side.
+// One pass of src into dst, every cell of it. The cells beside the first window stand at radius + 1 on either side.
 pub fn pass(plan: Plan, src: &[i64], dst: &mut [i64])
     requires { ⌜ Passable plan (now src) (length (now dst)) ⌝ }
     ensures { λ _. ⌜ now (dst .exit) ≡ S.pass fold (stageOf plan) (now (src .entry)) ⌝ }
 {
-    let radius = plan.radius as usize;
-    let inner = plan.inner as i64;
-    let edge = plan.edge as i64;
-    let mut w = first_window(src, radius);
-    let mut lo = behind(src, 0, radius + 1);
-    let mut n: usize = 0;
-    while n < src.len() {
-        let first = behind(src, n, radius);
-        let hi = ahead(src, n + radius + 1);
-        let v = cell(inner, edge, w, lo, hi);
-        dst[n] = v;
-        w = slide(w, hi, first);
-        lo = first;
-        n += 1;
+    let len = src.len();
+    let beyond = plan.radius as usize + 1;
+    let at = periods_before(plan.radius as usize, len);
+    let w = crate::window::first_window(src, at.whole, at.rest);
+    let low = 2 * len - 1 - at.rest;
+    let high = next(at.rest, len);
+    if len <= 2 * beyond {
+        crate::ends::walk(plan, src, 0, len, low, high, w, dst);
+        return;
     }
+    let end = len - beyond;
+    let entering = crate::ends::walk(plan, src, 0, beyond, low, high, w, dst);
+    let leaving = crate::middle::straight(plan, src, entering, dst);
+    crate::ends::walk(plan, src, end, len, end - beyond, len, leaving, dst);
 }
 
 // Writes zeros.

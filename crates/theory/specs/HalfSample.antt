@@ -3,7 +3,7 @@
 --   half-sample-near       the Nearness
 --   half-sample-balanced   the balance
 -- Laws: reflect-low, reflect-high, reflect-min (both, for omega);
--- fold-at (a place by its period), fold-period, fold-mirror (-1 - z reads as z does), fold-negsuc (the same of pos n), ext-negsuc (of a series).
+-- fold-at (a place by its period), fold-small (one of the first period), fold-period, fold-mirror (-1 - z reads as z does), fold-negsuc (the same of pos n), ext-negsuc (of a series).
 use mathlib.Core.Path.{_≡_, refl, sym, _∙_, ap, ap₂}
 use mathlib.Core.List.{List, [], _∷_}
 use Prim.Native.Nat.{ℕ, suc, _+_, _*_, _-_, _≤_, _<_, min}
@@ -43,7 +43,7 @@ pub fold-at : (N i : ℕ) {t : ℕ} → t < 2 * N → fold N (pos (i * (2 * N) +
 unfolding fold
 fold-at N i h = ap (reflect N) (emod-is {q = pos i} (record { below = h; is = simp diff (omega linear) }))
 
-fold-small : (N : ℕ) {m : ℕ} → m < 2 * N → fold N (pos m) ≡ reflect N m
+pub fold-small : (N : ℕ) {m : ℕ} → m < 2 * N → fold N (pos m) ≡ reflect N m
 unfolding fold
 fold-small N h = ap (reflect N) (emod-small h)
 

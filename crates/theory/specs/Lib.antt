@@ -14,6 +14,8 @@
 --   Passes       the law: passes are one convolution
 --   Sizes        M times the divisor, after every pass
 --   Slide        a pass by running sums, and how large they grow
+--   Walk         the extension walked forward, by where one stands in its period
+--   Period       sums from 0 on, whole periods at once
 --   Tests        tests by what they test, and joined
 --   Weights      results are linear in the samples
 --   Local        what lies within reach, and nothing else
@@ -62,6 +64,8 @@ pub mod Moment
 pub mod Passes
 pub mod Sizes
 pub mod Slide
+pub mod Walk
+pub mod Period
 pub mod Tests
 pub mod Weights
 pub mod Local

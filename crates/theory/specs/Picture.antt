@@ -1,6 +1,6 @@
 -- Pictures: smoothing across and down, in either order, gives `picture`; and how large it grows.
 --   Keeps op   op leaves a series as long as it is
--- Laws: length-row, at-row, row-inside (a row ends within the picture), row-part (a row is a stretch of the picture);
+-- Laws: length-row, length-column, at-row, row-inside (a row ends within the picture), row-part (a row is a stretch of the picture);
 -- ext-column (a column without ends), sized-column; length-across, length-down, length-picture, cell-picture; row-across (what was done to each row is found in each row);
 -- down-none, down-cons (a stage in front is one pass more over every column), cell-passed (a cell after one pass down);
 -- rows-first, columns-first, either-first; across-size, down-size, picture-size.
@@ -80,7 +80,7 @@ pub length-row : (W : ℕ) (f : List ℤ) (y : ℕ) → length (row W f y) ≡ W
 unfolding row
 length-row W f y = length-listOf W _
 
-length-column : (W H : ℕ) (f : List ℤ) (x : ℕ) → length (column W H f x) ≡ H
+pub length-column : (W H : ℕ) (f : List ℤ) (x : ℕ) → length (column W H f x) ≡ H
 unfolding column
 length-column W H f x = length-listOf H _
 

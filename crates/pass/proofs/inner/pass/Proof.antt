@@ -1,135 +1,110 @@
--- Before cell n, w is the window around n and lo the cell before it; the first n cells are the pass's.
-use Prim.Native.Nat.{_+_, _-_, _≤_}
+-- The walk from the first cell on; or, where the series has a middle, a walk to it, the straight stretch, and a walk to the end.
+use Prim.Native.Nat.{_+_, _*_, _-_}
 use mathlib.Core.Path.{_≡_, refl, sym, _∙_}
+use mathlib.Core.List.{List}
 use native.Mathlib.Omega.{arith}
-use lib.ListN.{length, take, length-set}
-use lib.IntN.{pos, _-ℤ_}
+use lib.ListN.{length}
+use lib.IntN.{ℤ}
 use mir.Syntax.{w64}
 use mir.Val.{toZ, ofZ}
-use mir.Facts.{toZ-ofZ, toZ-pos}
+use mir.Facts.{toZ-ofZ}
 use borrow.Author.Needs.{needs, sfits-of}
-use Rattle.meaning.specs.Extension.{fold, ext}
-use Rattle.meaning.specs.Smoothing as S
-use Rattle.theory.specs.Passes.{length-pass, at-pass}
-use Rattle.theory.specs.Slide.{window}
-use Rattle.theory.specs.Fill.{fill-next, fill-done}
-use Rattle.plan.specs.Structs.{stageOf}
-use Rattle.pass.specs.Turn.{Turn, cell-is, cell-fits, low-next, slide-is, slide-fits, pass-room, summable}
+use Rattle.pass.specs.Ready.{Reached, Beside}
+use Rattle.pass.specs.Turn.{summable}
+use Rattle.pass.specs.Course.{same-room, reached-start, reached-done, beside-start, beside-end}
 use Rattle.pass.proofs.inner.pass.Statement.{statement}
 use Rattle.pass.proofs.inner.pass.Tie as tie
 
-abbrev Inv-loop : tie.InvT-loop
-Inv-loop src dst₀ radius inner edge w₀ lo₀ n₀ dst w lo n =
-    (n ≤ length src) × (length dst ≡ length src)
-    × (toZ w64 w ≡ window (ext fold src) radius (pos n))
-    × (toZ w64 lo ≡ ext fold src (pos n -ℤ pos (radius + 1)))
-    × (take n dst ≡ take n (S.pass fold (record { radius = radius; inner = inner; edge = edge }) src))
+add-beyond : tie.Need-add-beyond
+add-beyond c = search needs
 
-abbrev μ-loop : tie.MeasureT-loop
-μ-loop src dst₀ radius inner edge w₀ lo₀ n₀ dst w lo n = length src - n
+periods-before-requires : tie.Need-periods-before-requires
+periods-before-requires c κs = search needs
 
-cast-inner : tie.Need-cast-inner Inv-loop μ-loop
-cast-inner c = search needs
+first-window-requires : tie.Need-first-window-requires
+first-window-requires c κs = let e = c .periods-before .ensures in (summable (c .before .pre) (omega (arith, e .0)), e .1)
 
-cast-edge : tie.Need-cast-edge Inv-loop μ-loop
-cast-edge c = search needs
+begun : (c : tie.After-first-window) (d : List ℤ) → Reached (c .before .before .args .plan) (c .before .before .args .src .now) d 0 (toZ w64 (ofZ w64 (c .first-window .result)))
+begun c d = reached-start (c .before .periods-before .ensures .0) (toZ-ofZ (sfits-of (c .first-window .ok)) ∙ c .first-window .ensures)
 
-first-window-requires : tie.Need-first-window-requires Inv-loop μ-loop
-first-window-requires c κs = summable (c .before .before .pre)
+mul-low : tie.Need-mul-low
+mul-low c = search needs
 
-add-behind : tie.Need-add-behind Inv-loop μ-loop
-add-behind c = search needs
+sub-low : tie.Need-sub-low
+sub-low c = search needs
 
-behind-requires : tie.Need-behind-requires Inv-loop μ-loop
-behind-requires c κs = search needs
+sub-low-2 : tie.Need-sub-low-2
+sub-low-2 c = search needs
 
-loop-holds : tie.Need-loop-holds Inv-loop μ-loop
-loop-holds c = (omega arith, search needs, toZ-ofZ (sfits-of (c .before .first-window .ok)) ∙ c .before .first-window .ensures, toZ-ofZ (sfits-of (c .behind .ok)) ∙ c .behind .ensures, refl)
+next-requires : tie.Need-next-requires
+next-requires c κs = search needs
 
-behind-requires-2 : tie.Need-behind-requires-2 Inv-loop μ-loop
-behind-requires-2 c κs = search needs
+beside : (c : tie.After-next) →
+    let a = c .before .before .before .before .args in
+    let n = length (a .src .now) in
+    Beside (a .plan) n 0 (2 * n - 1 - c .before .before .before .periods-before .result .rest) (c .next .result)
+beside c = let at = c .before .before .before .periods-before in beside-start (at .result .whole) (at .ensures .0) (at .ensures .1) (c .next .ensures)
 
-add-ahead : tie.Need-add-ahead Inv-loop μ-loop
-add-ahead c = search needs
+mul-if1 : tie.Need-mul-if1
+mul-if1 c = search needs
 
-add-ahead-2 : tie.Need-add-ahead-2 Inv-loop μ-loop
-add-ahead-2 c = search needs
+walk-requires : tie.Need-walk-requires
+walk-requires c κs =
+    let a = c .before .before .before .before .before .before in
+    (a .pre, (begun (c .before .before .before .before) _, (beside (c .before .before), (omega arith, omega arith))))
 
-ahead-requires : tie.Need-ahead-requires Inv-loop μ-loop
-ahead-requires c κs = search needs
-
-turn : (c : tie.After-ahead Inv-loop μ-loop) →
-    let start = c .before .before .before .before .before .before .before .before in
-    let l = c .before .before .before .loop in
-    Turn (stageOf (start .args .plan)) (ext fold (start .args .src .now)) (l .n) (toZ w64 (start .args .plan .inner)) (toZ w64 (start .args .plan .edge)) (toZ w64 (l .w)) (toZ w64 (l .lo)) (toZ w64 (ofZ w64 (c .before .behind2 .result))) (toZ w64 (ofZ w64 (c .ahead .result)))
-turn c = record {
-  inner = toZ-pos w64 (omega arith);
-  edge = toZ-pos w64 (omega arith);
-  sum = c .before .before .before .loop .inv .2;
-  low = c .before .before .before .loop .inv .3;
-  leaves = search needs;
-  enters = search needs;
-}
-
-cell-requires : tie.Need-cell-requires Inv-loop μ-loop
-cell-requires c κs = cell-fits (turn c) (pass-room (c .before .before .before .before .before .before .before .before .pre))
-
-mul-v : tie.Need-mul-v Inv-loop μ-loop
-mul-v c = search needs
-
-slice-set-from-v : tie.Need-slice-set-from-v Inv-loop μ-loop
-slice-set-from-v c = search needs
-
-slide-requires : tie.Need-slide-requires Inv-loop μ-loop
-slide-requires c κs = slide-fits (turn (c .before)) (pass-room (c .before .before .before .before .before .before .before .before .before .pre))
-
-add-n : tie.Need-add-n Inv-loop μ-loop
-add-n c = search needs
-
-loop-less : tie.Need-loop-less Inv-loop μ-loop
-loop-less c = search needs
-
-loop-again : tie.Need-loop-again Inv-loop μ-loop
-loop-again c =
-    let l = c .before .before .before .before .before .loop in
-    let t = turn (c .before .before) in (
-      omega arith,
-      simp length-set (l .inv .1),
-      toZ-ofZ (sfits-of (c .slide .ok)) ∙ c .slide .ensures ∙ slide-is t,
-      low-next t,
-      fill-next _ (l .dst) (l .n) (l .inv .4) _ (omega arith) (rw length-pass (omega arith)) (toZ-ofZ (sfits-of (c .before .cell .ok)) ∙ cell-is t (c .before .cell .ensures) ∙ sym (at-pass fold _ _ (l .n) (omega arith))),
-    )
-
-same-length : tie.Need-same-length Inv-loop μ-loop
+same-length : tie.Need-same-length
 same-length c = search needs
 
-returns : tie.Need-returns Inv-loop μ-loop
-returns c =
-    let l = c .before .loop in
-    fill-done _ (l .dst) (l .n) (l .inv .4) (omega arith) (rw length-pass (omega arith))
+returns : tie.Need-returns
+returns c = reached-done (c .before .walk .ensures) (search needs) refl
+
+sub-end : tie.Need-sub-end
+sub-end c = search needs
+
+walk-requires-2 : tie.Need-walk-requires-2
+walk-requires-2 c κs =
+    let a = c .before .before .before .before .before .before in
+    (a .pre, (begun (c .before .before .before .before) _, (beside (c .before .before), (omega arith, omega arith))))
+
+straight-requires : tie.Need-straight-requires
+straight-requires c κs =
+    let a = c .before .before .before .before .before .before .before .before .before in
+    (same-room (a .pre) (search needs), (rw (toZ-ofZ (sfits-of (c .before .before .walk2 .ok))) (c .before .before .walk2 .ensures), omega arith))
+
+sub-walk : tie.Need-sub-walk
+sub-walk c = search needs
+
+walk-requires-3 : tie.Need-walk-requires-3
+walk-requires-3 c κs =
+    let a = c .before .before .before .before .before .before .before .before .before .before .before .before in
+    (same-room (a .pre) (search needs), (rw (toZ-ofZ (sfits-of (c .before .before .straight .ok))) (c .before .before .straight .ensures), (beside-end (omega arith) (omega arith), (omega arith, omega arith))))
+
+same-length-2 : tie.Need-same-length-2
+same-length-2 c = search needs
+
+returns-2 : tie.Need-returns-2
+returns-2 c = reached-done (c .before .walk3 .ensures) (search needs) refl
 
 pub pass-spec : {M : Type 1} → statement M
 pass-spec =
     tie.close
     (tie.spec
-    Inv-loop
-    μ-loop
-    cast-inner
-    cast-edge
+    add-beyond
+    periods-before-requires
     first-window-requires
-    add-behind
-    behind-requires
-    loop-holds
-    behind-requires-2
-    add-ahead
-    add-ahead-2
-    ahead-requires
-    cell-requires
-    mul-v
-    slice-set-from-v
-    slide-requires
-    add-n
-    loop-less
-    loop-again
+    mul-low
+    sub-low
+    sub-low-2
+    next-requires
+    mul-if1
+    walk-requires
     same-length
-    returns)
+    returns
+    sub-end
+    walk-requires-2
+    straight-requires
+    sub-walk
+    walk-requires-3
+    same-length-2
+    returns-2)

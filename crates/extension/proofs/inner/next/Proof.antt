@@ -1,0 +1,21 @@
+-- Below the period's end a place stands at itself; the end is the start.
+use native.Mathlib.Omega.{arith}
+use Rattle.theory.specs.Walk.{stands-here, stands-turn}
+use borrow.Author.Needs.{needs}
+use Rattle.extension.proofs.inner.next.Statement.{statement}
+use Rattle.extension.proofs.inner.next.Tie as tie
+
+add-on : tie.Need-add-on
+add-on c = search needs
+
+mul-if1 : tie.Need-mul-if1
+mul-if1 c = search needs
+
+returns : tie.Need-returns
+returns c = stands-turn (omega arith) (c .if1 .taken)
+
+returns-2 : tie.Need-returns-2
+returns-2 c = stands-here (omega arith)
+
+pub next-spec : {M : Type 1} → statement M
+next-spec = tie.close (tie.spec add-on mul-if1 returns returns-2)
