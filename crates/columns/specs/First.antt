@@ -1,18 +1,18 @@
 -- The first row of a pass down: rows added to a row of zeros, each times its weight. Column x is a series, so what is said of one is said of x.
 --   Adds W src w i row g   to row may be added w times the row of src that begins at i, and its cells are then g
 --   centre s e t           what lies on either side of 0 within the window, and the cell at the radius, which stands at t: in the window and at its low edge
--- Laws: line-size, begins-read (a cell of the row that begins there); rows-none, rows-next (one row more of those from 0 on);
+-- Laws: line-size, begins-read (a cell of the row that begins there), same-room (for as many cells elsewhere), period-fits; rows-none, rows-next (one row more of those from 0 on);
 -- periods-none, periods-ready, periods-done (whole periods), rest-ready, rest-done (and the rest), centre-added, edge-added; first-is, first-written (in its place).
-use Prim.Native.Nat.{ℕ, _+_, _*_, _≤_, _<_}
+use Prim.Native.Nat.{ℕ, _+_, _*_, _^_, _≤_, _<_}
 use mathlib.Core.Path.{_≡_, refl, sym, _∙_, ap, ap₂}
 use mathlib.Core.List.{List, [], _++_}
-use native.Mathlib.Nat.{zero-mul, mul-le-mul-right}
+use native.Mathlib.Nat.{zero-mul, le-mul-of-pos-right, mul-le-mul-right}
 use native.Mathlib.Omega.{arith}
 use lib.ListN.{length, take, replicate, length-replicate, getD-replicate}
-use lib.IntN.{ℤ, pos, _+ℤ_, _*ℤ_, +ℤ-idl, +ℤ-idr, *ℤ-zero, *ℤ-assoc}
+use lib.IntN.{ℤ, pos, _+ℤ_, _*ℤ_, +ℤ-idl, +ℤ-idr, *ℤ-zero}
 use Rattle.algebra.specs.Expression.{_⊕_, _⊗_}
 use Rattle.algebra.specs.Solver.{ring, _≗_}
-use Rattle.algebra.specs.Ring.{*ℤ-+ℤ}
+use Rattle.algebra.specs.Ring.{*ℤ-assoc, *ℤ-+ℤ}
 use Rattle.algebra.specs.Size.{Abs, abs-self, abs-+, abs-*, fits-abs}
 use Rattle.meaning.specs.Limits.{maxResult}
 use Rattle.meaning.specs.Extension.{at, fold}
@@ -31,17 +31,23 @@ use Rattle.plan.specs.Structs.{stageOf}
 use Rattle.columns.specs.Ready.{Passable, passed, line, added, Addable, rowsAdded, RowsAddable, sides, Begins}
 
 -- ---- columns
-pub line-size : {M W H : ℕ} {f : List ℤ} → Sized M f → (x : ℕ) (z : ℤ) → Abs (line W H f x z) M
-line-size {W} {H} h x = ext-size fold (sized-column W H h x)
+pub line-size : (W H : ℕ) {M : ℕ} {f : List ℤ} → Sized M f → (x : ℕ) (z : ℤ) → Abs (line W H f x z) M
+line-size W H h x = ext-size fold (sized-column W H h x)
 
-pub begins-read : {W H : ℕ} → 1 ≤ H → {f : List ℤ} {z : ℤ} {i : ℕ} → Begins W H z i → (x : ℕ) → at f (i + x) ≡ line W H f x z
-begins-read {W} h {f} {z} b x = rw (b .is) (sym (ext-column half-sample W h f x z))
+pub begins-read : {W H : ℕ} → 1 ≤ H → (f : List ℤ) {z : ℤ} {i : ℕ} → Begins W H z i → (x : ℕ) → at f (i + x) ≡ line W H f x z
+begins-read {W} h f {z} b x = rw (b .is) (sym (ext-column half-sample W h f x z))
 
 line-repeats : (W H : ℕ) (f : List ℤ) (x : ℕ) → Repeats (2 * H) (line W H f x)
 line-repeats W H f x = rw (length-column W H f x) at (ext-repeats (P.column W H f x))
 
 line-stands : (W : ℕ) {H : ℕ} (f : List ℤ) (x : ℕ) {z : ℤ} {m : ℕ} → Stands H z m → line W H f x (pos m) ≡ line W H f x z
 line-stands W {H} f x s = stands-ext (P.column W H f x) (rw (length-column W H f x) s)
+
+pub same-room : {p : Plan} {W H : ℕ} {src : List ℤ} {m n : ℕ} → Passable p W H src m → n ≡ W * H → Passable p W H src n
+same-room h e = rw (e ∙ sym (h .same)) h
+
+pub period-fits : {p : Plan} {W H : ℕ} {src : List ℤ} {n : ℕ} → Passable p W H src n → 2 * H < 2 ^ 64
+period-fits {H} h = omega (arith, h .few, le-mul-of-pos-right H (h .wide))
 
 -- ---- rows added to a row
 pub record Adds (W : ℕ) (src : List ℤ) (w : ℤ) (i : ℕ) (row : List ℤ) (g : ℕ → ℤ) : Type 0 where
@@ -62,7 +68,7 @@ module _ {W H : ℕ} {src : List ℤ} {M : ℕ} (tall : 1 ≤ H) (cells : length
           weighed = λ x l. rw w-is (fits-abs (weighs x) (omega arith));
           fits = λ x l. rw (w-is, cell x (omega arith)) (fits-abs (abs-+ (size x (omega arith)) (weighs x)) (omega arith));
         };
-        gives = λ e. e ∙ rw long (listOf-ext W (λ x l. rw (w-is, cell x l, begins-read tall {f = src} b x) (next x)));
+        gives = λ e. e ∙ rw long (listOf-ext W (λ x l. rw (w-is, cell x l, begins-read tall src b x) (next x)));
       }
 
 -- ---- those at the places from 0 on
@@ -72,7 +78,7 @@ rows-none {w} {W} {H} {row = row} h = sym (listOf-ext W (λ x l. rw (upTo-none _
 
 rows-size : {w : ℤ} {W H K : ℕ} {src row : List ℤ} → (h : RowsAddable w W H K src row) → (k x : ℕ) → Abs (rowsAdded w W H k src row x) (h .held + h .weight * (k * h .largest))
 unfolding rowsAdded
-rows-size h k x = rw (h .is) (abs-+ (h .holds .size x) (abs-* (abs-self (pos (h .weight))) (upTo-size (line-size (h .sized) x) k)))
+rows-size h k x = rw (h .is) (abs-+ (h .holds .size x) (abs-* (abs-self (pos (h .weight))) (upTo-size (line-size _ _ (h .sized) x) k)))
 
 pub rows-next : {w : ℤ} {W H K : ℕ} {src start row : List ℤ} → RowsAddable w W H K src start → {k i : ℕ} → k < K → Begins W H (pos k) i → row ≡ listOf W (rowsAdded w W H k src start)
     → Adds W src w i row (rowsAdded w W H (k + 1) src start)
@@ -91,20 +97,17 @@ sides-size : (s : Stage) {M : ℕ} {e : ℤ → ℤ} → ((n : ℤ) → Abs (e n
 unfolding sides
 sides-size s h k = abs-* (abs-self (pos (2 * s .inner))) (upTo-size h k)
 
+abbrev pub sidesOf : Plan → ℕ → ℕ → List ℤ → ℕ → ℕ → ℤ
+sidesOf p W H f k x = sides (stageOf p) (line W H f x) k
+
 module _ {p : Plan} {W H : ℕ} {src : List ℤ} {n : ℕ} (h : Passable p W H src n) {row : List ℤ} where
-  abbrev s : Stage
-  s = stageOf p
-
-  abbrev sidesOf : ℕ → ℕ → ℤ
-  sidesOf k x = sides s (line W H src x) k
-
-  pub periods-none : row ≡ replicate W (pos 0) → {q : ℕ} → q ≡ 0 → row ≡ listOf W (sidesOf (q * (2 * H)))
+  pub periods-none : row ≡ replicate W (pos 0) → (q : ℕ) → q ≡ 0 → row ≡ listOf W (sidesOf p W H src (q * (2 * H)))
   unfolding sides
-  periods-none e z = e ∙ sym (rw (z, zero-mul (2 * H)) (listOf-ext W (λ x l. rw (upTo-none (line W H src x)) (*ℤ-zero (pos (2 * p .inner)))) ∙ listOf-const W (pos 0)))
+  periods-none e q z = e ∙ sym (rw (z, zero-mul (2 * H)) (listOf-ext W (λ x l. rw (upTo-none (line W H src x)) (*ℤ-zero (pos (2 * p .inner)))) ∙ listOf-const W (pos 0)))
 
-  pub periods-ready : row ≡ replicate W (pos 0) → {q : ℕ} → q * (2 * H) ≤ p .radius → {w : ℤ} → w ≡ pos (2 * p .inner * q) → RowsAddable w W H (2 * H) src row
+  pub periods-ready : row ≡ replicate W (pos 0) → (q : ℕ) → q * (2 * H) ≤ p .radius → {w : ℤ} → w ≡ pos (2 * p .inner * q) → RowsAddable w W H (2 * H) src row
   unfolding tapSum
-  periods-ready e {q} l i = record {
+  periods-ready e q l i = record {
     wide = h .wide;
     few = h .few;
     cells = h .cells;
@@ -119,15 +122,15 @@ module _ {p : Plan} {W H : ℕ} {src : List ℤ} {n : ℕ} (h : Passable p W H s
     room = omega (arith, mul-le-mul-right (p .inner * h .largest) l, h .room);
   }
 
-  pub periods-done : row ≡ replicate W (pos 0) → {q : ℕ} {w : ℤ} → w ≡ pos (2 * p .inner * q) → {new : List ℤ} → new ≡ listOf W (rowsAdded w W H (2 * H) src row) → new ≡ listOf W (sidesOf (q * (2 * H)))
+  pub periods-done : row ≡ replicate W (pos 0) → (q : ℕ) {w : ℤ} → w ≡ pos (2 * p .inner * q) → {new : List ℤ} → new ≡ listOf W (rowsAdded w W H (2 * H) src row) → new ≡ listOf W (sidesOf p W H src (q * (2 * H)))
   unfolding rowsAdded sides
-  periods-done e {q} i g = g ∙ listOf-ext W (λ x l. ap₂ _+ℤ_ (ap (λ (r : List ℤ). at r x) e ∙ getD-replicate W x (pos 0) (pos 0) l) (ap (λ z. z *ℤ upTo (line W H src x) (2 * H)) i)
+  periods-done e q i g = g ∙ listOf-ext W (λ x l. ap₂ _+ℤ_ (ap (λ (r : List ℤ). at r x) e ∙ getD-replicate W x (pos 0) (pos 0) l) (ap (λ z. z *ℤ upTo (line W H src x) (2 * H)) i)
       ∙ +ℤ-idl _
       ∙ *ℤ-assoc (pos (2 * p .inner)) (pos q) (upTo (line W H src x) (2 * H))
       ∙ ap (λ z. pos (2 * p .inner) *ℤ z) (sym (upTo-whole (line-repeats W H src x) q)))
 
-  module _ {q t : ℕ} (r : p .radius ≡ q * (2 * H) + t) (l : t < 2 * H) where
-    pub rest-ready : row ≡ listOf W (sidesOf (q * (2 * H))) → {w : ℤ} → w ≡ pos (2 * p .inner) → RowsAddable w W H t src row
+  module _ (q : ℕ) {t : ℕ} (r : p .radius ≡ q * (2 * H) + t) (l : t < 2 * H) where
+    pub rest-ready : row ≡ listOf W (sidesOf p W H src (q * (2 * H))) → {w : ℤ} → w ≡ pos (2 * p .inner) → RowsAddable w W H t src row
     unfolding tapSum
     rest-ready e i = record {
       wide = h .wide;
@@ -140,29 +143,29 @@ module _ {p : Plan} {W H : ℕ} {src : List ℤ} {n : ℕ} (h : Passable p W H s
       largest = h .largest;
       sized = h .sized;
       held = 2 * p .inner * (q * (2 * H) * h .largest);
-      holds = rw e (sized-listOf W _ (λ x l. sides-size s (line-size (h .sized) x) (q * (2 * H))));
+      holds = rw e (sized-listOf W _ (λ x l. sides-size (stageOf p) (line-size _ _ (h .sized) x) (q * (2 * H))));
       room = omega (arith, ap (λ (k : ℕ). k * (p .inner * h .largest)) r, h .room);
     }
 
-    pub rest-done : row ≡ listOf W (sidesOf (q * (2 * H))) → {w : ℤ} → w ≡ pos (2 * p .inner) → {new : List ℤ} → new ≡ listOf W (rowsAdded w W H t src row) → new ≡ listOf W (sidesOf (p .radius))
+    pub rest-done : row ≡ listOf W (sidesOf p W H src (q * (2 * H))) → {w : ℤ} → w ≡ pos (2 * p .inner) → {new : List ℤ} → new ≡ listOf W (rowsAdded w W H t src row) → new ≡ listOf W (sidesOf p W H src (p .radius))
     unfolding rowsAdded sides
     rest-done e i g = g ∙ listOf-ext W (λ x l. ap₂ _+ℤ_ (ap (λ (r : List ℤ). at r x) e ∙ at-listOf W _ x l) (ap (λ z. z *ℤ upTo (line W H src x) t) i)
         ∙ sym (*ℤ-+ℤ (pos (2 * p .inner)) (upTo (line W H src x) (q * (2 * H))) (upTo (line W H src x) t))
         ∙ rw (r, upTo-rest (line-repeats W H src x) q t))
 
-    pub centre-added : {i : ℕ} → Begins W H (pos t) i → {w : ℤ} → w ≡ pos (p .inner + p .edge) → row ≡ listOf W (sidesOf (p .radius)) → Adds W src w i row (λ x. centre s (line W H src x) t)
+    pub centre-added : {i : ℕ} → Begins W H (pos t) i → {w : ℤ} → w ≡ pos (p .inner + p .edge) → row ≡ listOf W (sidesOf p W H src (p .radius)) → Adds W src w i row (λ x. centre (stageOf p) (line W H src x) t)
     unfolding tapSum
-    centre-added b i e = adds (h .tall) (h .cells) (h .sized) b i (sidesOf (p .radius)) e (λ x l. sides-size s (line-size (h .sized) x) (p .radius)) (omega (arith, h .room)) (λ x. refl)
+    centre-added b i e = adds (h .tall) (h .cells) (h .sized) b i (sidesOf p W H src (p .radius)) e (λ x l. sides-size (stageOf p) (line-size _ _ (h .sized) x) (p .radius)) (omega (arith, h .room)) (λ x. refl)
 
-    pub edge-added : {i high : ℕ} → Stands H (pos (t + 1)) high → Begins W H (pos high) i → {w : ℤ} → w ≡ pos (p .edge) → row ≡ listOf W (λ x. centre s (line W H src x) t) → Adds W src w i row (λ x. passAt s (line W H src x) (pos 0))
+    pub edge-added : {i high : ℕ} → Stands H (pos (t + 1)) high → Begins W H (pos high) i → {w : ℤ} → w ≡ pos (p .edge) → row ≡ listOf W (λ x. centre (stageOf p) (line W H src x) t) → Adds W src w i row (λ x. passAt (stageOf p) (line W H src x) (pos 0))
     unfolding tapSum
     edge-added {high = high} u b i e =
-        adds (h .tall) (h .cells) (h .sized) b i (λ x. centre s (line W H src x) t) e
-        (λ x l. abs-+ (sides-size s (line-size (h .sized) x) (p .radius)) (abs-* (abs-self (pos (p .inner + p .edge))) (line-size (h .sized) x (pos t))))
+        adds (h .tall) (h .cells) (h .sized) b i (λ x. centre (stageOf p) (line W H src x) t) e
+        (λ x l. abs-+ (sides-size (stageOf p) (line-size _ _ (h .sized) x) (p .radius)) (abs-* (abs-self (pos (p .inner + p .edge))) (line-size _ _ (h .sized) x (pos t))))
         (omega (arith, h .room))
-        (λ x. unfold sides in rw (line-stands W src x (stands-periods q l r), line-stands W src x (stands-next (stands-periods q l r) u {y = pos (p .radius + 1)} refl)) (sym (passAt-mirrored (ext-mirrored (P.column W H src x)) s)))
+        (λ x. unfold sides in rw (line-stands W src x (stands-periods q l r), line-stands W src x (stands-next (stands-periods q l r) u {y = pos (p .radius + 1)} refl)) (sym (passAt-mirrored (ext-mirrored (P.column W H src x)) (stageOf p))))
 
-  pub first-is : row ≡ listOf W (λ x. passAt s (line W H src x) (pos 0)) → row ≡ P.row W (passed p W H src) 0
+  pub first-is : row ≡ listOf W (λ x. passAt (stageOf p) (line W H src x) (pos 0)) → row ≡ P.row W (passed p W H src) 0
   unfolding P.row
   first-is e = e ∙ listOf-ext W (λ x l. sym (cell-passed fold (stageOf p) W H src x 0 l (h .tall)))
 

@@ -11,7 +11,7 @@ ghost use Rattle.meaning.specs.Smoothing.{listOf};
 ghost use Rattle.meaning.specs.Picture as P;
 ghost use Rattle.plan.specs.Structs.{stageOf};
 ghost use Rattle.plan.specs.Tested.{Tested};
-ghost use Rattle.columns.specs.Ready.{Addable, added, Around, Begins, Passable, passed, stepped};
+ghost use Rattle.columns.specs.Ready.{Addable, added, Around, Begins, line, Passable, passed, RowsAddable, rowsAdded, sides, stepped};
 use extension::inner::next;
 use extension::inner::periods_before;
 use plan::Plan;

@@ -1,6 +1,6 @@
 -- The course of a pass over f, cell by cell: what is written, the window, and the cells beside it.
 -- Laws: same-room (what was written has as many cells), reached-start, reached-next (one cell more, by a turn), reached-done;
--- beside-start, beside-next (one cell on), beside-end (where only the last cells are left); low-read, leaves-read, high-read (by walking);
+-- beside-start, beside-next (one cell on), beside-end (where only the last cells are left), leaves-at, enters-at (where what leaves stands, and what enters after the next); low-read, leaves-read, high-read (by walking);
 -- behind-read, ahead-read (within the series).
 use Prim.Native.Nat.{ℕ, _+_, _*_, _-_, _≤_, _<_}
 use mathlib.Core.Path.{_≡_, refl, sym, _∙_, ap}
@@ -50,8 +50,11 @@ module _ {p : Plan} {N : ℕ} where
   beside-end {n} e l = record { low-at = rw (sub-pos n (p .radius + 1) (omega arith)) (stands-here (omega arith)); high-at = let i : n + p .radius + 1 ≡ N = omega arith in rw i (stands-here (omega arith)) }
 
   module _ {n low high : ℕ} (h : Beside p N n low high) where
-    leaves-at : {k : ℕ} → Stands N (pos (low + 1)) k → Stands N (pos n -ℤ pos (p .radius)) k
+    pub leaves-at : {k : ℕ} → Stands N (pos (low + 1)) k → Stands N (pos n -ℤ pos (p .radius)) k
     leaves-at s = stands-next (h .low-at) s (simp diff (omega linear))
+
+    pub enters-at : {m : ℕ} → Stands N (pos (high + 1)) m → Stands N (pos (n + p .radius + 2)) m
+    enters-at t = stands-next (h .high-at) t (ap pos (omega arith))
 
     pub beside-next : {k m : ℕ} → Stands N (pos (low + 1)) k → Stands N (pos (high + 1)) m → Beside p N (n + 1) k m
     beside-next s t = record { low-at = stands-next (h .low-at) s (simp diff (omega linear)); high-at = stands-next (h .high-at) t (ap pos (omega arith)) }
