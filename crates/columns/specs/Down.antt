@@ -2,7 +2,7 @@
 --   Turn s e y v o i   the locals at a cell of row y + 1: v the cell above it, o and i what changes at the edges of the window and within
 -- Laws: line-room; change-is, change-fits; above-is, cell-next (one cell of row y + 1 more); stepped-is, stepped-fits;
 -- around (where the four rows begin, by walking).
-use Prim.Native.Nat.{ℕ, suc, _+_, _*_, _≤_, _<_}
+use Prim.Native.Nat.{ℕ, suc, _+_, _*_, _<_}
 use mathlib.Core.Path.{_≡_, sym, _∙_, ap, ap₂}
 use mathlib.Core.List.{List}
 use native.Mathlib.Numerals.{add-one}

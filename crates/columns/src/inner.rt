@@ -53,7 +53,14 @@ fn add_rows(weight: i64, width: usize, height: usize, count: usize, src: &[i64],
 }
 
 // Whole periods of rows on either side of row 0, weighed: one period, so many times.
-fn whole_periods(plan: Plan, periods: usize, width: usize, height: usize, src: &[i64], row: &mut [i64])
+fn whole_periods(
+    plan: Plan,
+    periods: usize,
+    width: usize,
+    height: usize,
+    src: &[i64],
+    row: &mut [i64],
+)
     requires { ⌜ Passable plan width height (now src) (width * height) ⌝ }
     requires { ⌜ length (now row) ≡ width ⌝ }
     requires { ⌜ periods * (2 * height) ≤ plan .radius ⌝ }
@@ -69,7 +76,15 @@ fn whole_periods(plan: Plan, periods: usize, width: usize, height: usize, src: &
 
 // Row 0 of the pass, whose radius is so many whole periods and a rest. What stands at -1 - j stands at j: so it is twice the rows from 0 up to the radius,
 // and one row at the radius, all within the window, and at its edges the row at the radius and the next.
-fn first_row(plan: Plan, whole: usize, rest: usize, width: usize, height: usize, src: &[i64], row: &mut [i64])
+fn first_row(
+    plan: Plan,
+    whole: usize,
+    rest: usize,
+    width: usize,
+    height: usize,
+    src: &[i64],
+    row: &mut [i64],
+)
     requires { ⌜ Passable plan width height (now src) (width * height) ⌝ }
     requires { ⌜ length (now row) ≡ width ⌝ }
     requires { ⌜ plan .radius ≡ whole * (2 * height) + rest ⌝ }
@@ -78,7 +93,12 @@ fn first_row(plan: Plan, whole: usize, rest: usize, width: usize, height: usize,
 {
     whole_periods(plan, whole, width, height, src, row);
     add_rows((2 * plan.inner) as i64, width, height, rest, src, row);
-    add_row((plan.inner + plan.edge) as i64, src, row_at(rest, width, height), row);
+    add_row(
+        (plan.inner + plan.edge) as i64,
+        src,
+        row_at(rest, width, height),
+        row,
+    );
     let beyond = next(rest, height);
     add_row(plan.edge as i64, src, row_at(beyond, width, height), row);
 }
@@ -144,7 +164,15 @@ pub fn pass(plan: Plan, width: usize, height: usize, src: &[i64], dst: &mut [i64
     ensures { λ _. ⌜ now (dst .exit) ≡ passed plan width height (now (src .entry)) ⌝ }
 {
     let at = periods_before(plan.radius as usize, height);
-    first_row(plan, at.whole, at.rest, width, height, src, &mut dst[0..width]);
+    first_row(
+        plan,
+        at.whole,
+        at.rest,
+        width,
+        height,
+        src,
+        &mut dst[0..width],
+    );
     let mut low = 2 * height - 1 - at.rest;
     let mut enters = next(at.rest, height);
     let mut y: usize = 0;

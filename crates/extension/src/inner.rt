@@ -45,7 +45,11 @@ pub fn reflect(place: usize, len: usize) -> usize
     requires { ⌜ 2 * len < 2 ^ 64 ⌝ }
     ensures { λ r. ⌜ r ≡ fold len (pos place) ⌝ }
 {
-    if place < len { place } else { 2 * len - 1 - place }
+    if place < len {
+        place
+    } else {
+        2 * len - 1 - place
+    }
 }
 
 // What stands at a place.

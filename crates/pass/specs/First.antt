@@ -10,8 +10,7 @@ use lib.ListN.{length}
 use lib.IntN.{ℤ, pos, _+ℤ_, _*ℤ_}
 use mir.Syntax.{w64}
 use mir.Val.{SFits}
-use Rattle.algebra.specs.Size.{Abs, abs-self, abs-+, abs-*, fits-abs}
-use Rattle.meaning.specs.Limits.{maxResult}
+use Rattle.algebra.specs.Size.{abs-self, abs-+, abs-*, fits-abs}
 use Rattle.meaning.specs.Extension.{fold, ext}
 use Rattle.theory.specs.Sizes.{ext-size}
 use Rattle.theory.specs.Slide.{window}

@@ -1,5 +1,5 @@
 // A pass over a series. Nothing here is a public call.
-pub mod inner;
 mod ends;
+pub mod inner;
 mod middle;
 mod window;

@@ -10,7 +10,7 @@ use native.Mathlib.Nat.{add-comm, zero-mul}
 use native.Mathlib.Numerals.{add-one}
 use native.Mathlib.Omega.{arith}
 use lib.ListN.{length}
-use lib.IntN.{ℤ, pos, negsuc, _+ℤ_, _-ℤ_, _*ℤ_, +ℤ-idl, zero-*ℤ, sucℤ-*ℤ}
+use lib.IntN.{ℤ, pos, negsuc, _+ℤ_, _*ℤ_, +ℤ-idl, zero-*ℤ, sucℤ-*ℤ}
 use Rattle.algebra.specs.Expression.{_⊕_, _⊗_}
 use Rattle.algebra.specs.Solver.{ring, _≗_}
 use Rattle.algebra.specs.Ring.{ac}

@@ -1,7 +1,6 @@
 -- Whole periods and the rest, then the two rows at the edges.
 use Prim.Native.Nat.{_+_}
 use mathlib.Core.Path.{_≡_}
-use native.Mathlib.Nat.{le-mul-of-pos-right}
 use native.Mathlib.Omega.{arith}
 use lib.IntN.{pos}
 use mir.Syntax.{w64}

@@ -1,7 +1,7 @@
 -- Below the period's end a place stands at itself; the end is the start.
 use native.Mathlib.Omega.{arith}
-use Rattle.theory.specs.Walk.{stands-here, stands-turn}
 use borrow.Author.Needs.{needs}
+use Rattle.theory.specs.Walk.{stands-here, stands-turn}
 use Rattle.extension.proofs.inner.next.Statement.{statement}
 use Rattle.extension.proofs.inner.next.Tie as tie
 

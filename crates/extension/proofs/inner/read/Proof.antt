@@ -1,13 +1,13 @@
 -- The fold stays within the series.
 use Prim.Native.Nat.{_<_}
 use mathlib.Core.Path.{ap, _∙_}
+use native.Mathlib.Omega.{arith}
 use lib.ListN.{length}
 use lib.IntN.{pos}
 use mir.Facts.{toZ-ofZ}
+use borrow.Author.Needs.{needs, sfits-of}
 use Rattle.meaning.specs.Extension.{at, ext}
 use Rattle.theory.specs.HalfSample.{half-sample}
-use native.Mathlib.Omega.{arith}
-use borrow.Author.Needs.{needs, sfits-of}
 use Rattle.extension.proofs.inner.read.Statement.{statement}
 use Rattle.extension.proofs.inner.read.Tie as tie
 

@@ -1,8 +1,7 @@
 -- The first half forward, the second back.
 use mathlib.Core.Path.{sym, _∙_}
-use native.Mathlib.Omega.{arith}
-use Rattle.theory.specs.HalfSample.{fold-small, reflect-low, reflect-high}
 use borrow.Author.Needs.{needs}
+use Rattle.theory.specs.HalfSample.{fold-small, reflect-low, reflect-high}
 use Rattle.extension.proofs.inner.reflect.Statement.{statement}
 use Rattle.extension.proofs.inner.reflect.Tie as tie
 

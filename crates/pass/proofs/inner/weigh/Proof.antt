@@ -6,16 +6,8 @@ use mir.Syntax.{w64}
 use mir.Val.{toZ}
 use mir.Facts.{toZ-ofZ, toZ-pos}
 use borrow.Author.Needs.{needs, sfits-of}
-use mathlib.Core.Path.{_≡_, _∙_}
-use native.Mathlib.Omega.{arith}
-use lib.IntN.{pos}
-use mir.Syntax.{w64}
-use mir.Val.{toZ}
-use mir.Facts.{toZ-ofZ, toZ-pos}
 use Rattle.pass.proofs.inner.weigh.Statement.{statement}
 use Rattle.pass.proofs.inner.weigh.Tie as tie
-
--- The weights are numbers of the plan.
 
 cast-cell : tie.Need-cast-cell
 cast-cell c = search needs
