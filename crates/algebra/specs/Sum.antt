@@ -1,6 +1,5 @@
 -- Finite sums.
---   sum n f      f 0 + .. + f (n − 1); 0 where n is 0
---   sumZ s n f   f s + f (s + 1) + .. + f (s + n − 1), from a whole number s on; 0 where n is 0
+--   sum n f   f 0 + .. + f (n − 1); 0 where n is 0
 -- Laws: sum-ext, sum-none, sum-+, sum-*; sum-first, sum-split, sum-blocks, sum-next; sum-wide, sum-same, sum-where;
 -- sum-abs, sum-nonneg, sum-positive, sum-part, sum-weighted.
 use mathlib.Core.Path.{_≡_, refl, sym, _∙_, ap, ap₂}
@@ -119,7 +118,3 @@ pub sum-weighted : (n b : ℕ) {w f : ℕ → ℤ} → ((i : ℕ) → pos 0 ≤�
 unfolding sum
 sum-weighted zero b h k = omega arith
 sum-weighted (suc n) b h k = record { bound = rw (natAbs-nonneg (sum-nonneg n (λ i l. h i)) (h n)) (omega (arith, abs-+ (sum-weighted n b h (λ i l. k i (omega arith))) (k n (omega arith)) .bound)) }
-
--- ---- over whole numbers
-abbrev pub sumZ : ℤ → ℕ → (ℤ → ℤ) → ℤ
-sumZ s n f = sum n (λ i. f (s +ℤ pos i))

@@ -2,7 +2,7 @@
 --   sumWithin R f  f summed over every whole m with |m| ≤ R
 --   Beyond w f     f is 0 farther out than w
 -- Laws: within-ext, within-halves, within-none, within-const, within-+, within-*, within-swap, within-exchange, within-sum, within-neg;
--- within-interval; beyond-*, within-wide, within-step, within-shift;
+-- beyond-*, within-wide, within-step, within-shift;
 -- within-abs, within-weighted, within-nonneg, within-positive.
 use mathlib.Core.Path.{_≡_, refl, sym, _∙_, ap, ap₂}
 use Prim.Native.Nat.{ℕ, zero, suc, _+_, _*_, _≤_, _<_}
@@ -14,7 +14,7 @@ use Rattle.algebra.specs.Difference.{rep, diff, linear}
 use Rattle.algebra.specs.Ring.{ac, *ℤ-left-comm, *ℤ-idl, *ℤ-zero-l, *ℤ-+ℤ}
 use Rattle.algebra.specs.Order.{nonneg-+, positive-+-l, positive-+-r}
 use Rattle.algebra.specs.Size.{Abs, abs-self, abs-weaken, abs-+, abs-*, natAbs-neg, natAbs-nonneg}
-use Rattle.algebra.specs.Sum.{sum, sum-first, sum-ext, sum-none, sum-wide, sum-abs, sum-nonneg, sum-positive, sumZ}
+use Rattle.algebra.specs.Sum.{sum, sum-none, sum-wide, sum-abs, sum-nonneg, sum-positive}
 
 unfoldable pub sumWithin : ℕ → (ℤ → ℤ) → ℤ
 sumWithin zero f = f (pos 0)
@@ -75,34 +75,6 @@ pub within-neg : (R : ℕ) (f : ℤ → ℤ) → sumWithin R (λ m. f (negℤ m)
 unfolding sumWithin
 within-neg zero f = refl
 within-neg (suc R) f = ap₂ _+ℤ_ (within-neg R f) (+ℤ-comm (f (negsuc R)) (f (pos (suc R))))
-
--- ---- as a sum over a range
-pub within-interval : (R : ℕ) (c : ℤ) (f : ℤ → ℤ) → sumWithin R (λ m. f (c -ℤ m)) ≡ sumZ (c -ℤ pos R) (2 * R + 1) f
-unfolding sumWithin sum
-within-interval zero c f = ap f (sym (+ℤ-idr (c -ℤ pos 0))) ∙ sym (+ℤ-idl _)
-within-interval (suc R) c f =
-    ap (λ z. z +ℤ (f (c -ℤ pos (suc R)) +ℤ f (c -ℤ negsuc R))) (within-interval R c f ∙ sum-ext (2 * R + 1) (λ i l. ap f (inner i)))
-    ∙ regroup (sum (2 * R + 1) (λ i. at (suc i))) (f (c -ℤ pos (suc R))) (f (c -ℤ negsuc R))
-    ∙ ap₂ _+ℤ_ (ap₂ _+ℤ_ (ap f lowest) refl ∙ sym (sum-first (2 * R + 1) at)) (ap f highest)
-    ∙ ap (λ n. sum n at) (sym more)
-  where
-    at : ℕ → ℤ
-    at i = f (c -ℤ pos (suc R) +ℤ pos i)
-
-    inner : (i : ℕ) → c -ℤ pos R +ℤ pos i ≡ c -ℤ pos (suc R) +ℤ pos (suc i)
-    inner i = rw (rep c) (simp diff (omega linear))
-
-    lowest : c -ℤ pos (suc R) ≡ c -ℤ pos (suc R) +ℤ pos 0
-    lowest = sym (+ℤ-idr (c -ℤ pos (suc R)))
-
-    highest : c -ℤ negsuc R ≡ c -ℤ pos (suc R) +ℤ pos (suc (2 * R + 1))
-    highest = rw (rep c) (simp diff (omega linear))
-
-    more : 2 * suc R + 1 ≡ suc (suc (2 * R + 1))
-    more = omega arith
-
-    regroup : (s a b : ℤ) → s +ℤ (a +ℤ b) ≡ a +ℤ s +ℤ b
-    regroup s a b = simp ac
 
 -- ---- where f is 0 far out
 pub beyond-* : {w : ℕ} {f : ℤ → ℤ} (g : ℤ → ℤ) → Beyond w f → Beyond w (λ m. f m *ℤ g m)

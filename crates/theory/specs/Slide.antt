@@ -3,10 +3,9 @@
 --   Step s e B     no number that a step of either running sum goes through is larger than B: of the plain sum `held`, `entered`,
 --                  `weighed`, `pair`, `edges`; of the weighted one `change`, `outer`, `inside`, `between`; of both `written`
 -- The plain sum runs the window and weighs it where it is written (window-slide, passAt-window).
--- With no sum before it, a pass is its taps one after another (passAt-taps).
 -- The weighted sum runs the pass itself: the survey's equation 33 (passAt-slide).
 -- Either step stays within twice M times the sum of the taps (step-size); that this is never above M times the divisor of all passes says room-part.
--- Laws: window-none (of radius 0), window-grow, window-slide, passAt-window, passAt-taps, passAt-slide;
+-- Laws: window-none (of radius 0), window-grow, window-slide, passAt-window, passAt-slide;
 -- window-size, step-size.
 use mathlib.Core.Path.{_≡_, refl, sym, _∙_, ap}
 use Prim.Native.Nat.{ℕ, suc, _+_, _*_, _≤_, _<_}
@@ -16,10 +15,8 @@ use lib.IntN.{ℤ, pos, predℤ, sucℤ, _+ℤ_, _-ℤ_, _*ℤ_, -ℤ-one, +ℤ-
 use Rattle.algebra.specs.Difference.{rep, diff, linear}
 use Rattle.algebra.specs.Expression.{_⊕_, _⊝_, _⊗_, con}
 use Rattle.algebra.specs.Solver.{ring, _≗_}
-use Rattle.algebra.specs.Ring.{ac}
 use Rattle.algebra.specs.Size.{Abs, abs-weaken, abs-self, abs-+, abs--, abs-*}
-use Rattle.algebra.specs.Sum.{sumZ, sum-*}
-use Rattle.algebra.specs.Within.{sumWithin, within-ext, within-step, within-interval, within-abs}
+use Rattle.algebra.specs.Within.{sumWithin, within-ext, within-step, within-abs}
 use Rattle.meaning.specs.Kernel.{Stage, tapSum, passAt}
 use Rattle.theory.specs.Kernel.{tap-split}
 use Rattle.theory.specs.Sizes.{passAt-size}
@@ -37,10 +34,6 @@ module _ (e : ℤ → ℤ) where
   unfolding window sumWithin
   window-grow r n = refl
 
-  window-range : (r : ℕ) (n : ℤ) → window e r n ≡ sumZ (n -ℤ pos r) (2 * r + 1) e
-  unfolding window
-  window-range r n = within-interval r n e
-
   pub window-slide : (r : ℕ) (n : ℤ) → window e r (sucℤ n) +ℤ e (n -ℤ pos r) ≡ window e r n +ℤ e (n +ℤ pos (suc r))
   unfolding window
   window-slide r n = ap (λ z. z +ℤ e (n -ℤ pos r)) (within-ext r (λ j l. ap e (next n j))) ∙ within-step r (λ j. e (n -ℤ j))
@@ -51,10 +44,6 @@ module _ (e : ℤ → ℤ) where
   pub passAt-window : (s : Stage) (n : ℤ) → passAt s e n ≡ pos (s .inner) *ℤ window e (s .radius) n +ℤ pos (s .edge) *ℤ (e (n -ℤ pos (suc (s .radius))) +ℤ e (n +ℤ pos (suc (s .radius))))
   unfolding passAt window
   passAt-window s n = tap-split s (λ j. e (n -ℤ j))
-
-  pub passAt-taps : (s : Stage) (n : ℤ) → passAt s e n ≡ sumZ (n -ℤ pos (s .radius)) (2 * s .radius + 1) (λ x. pos (s .inner) *ℤ e x)
-      +ℤ pos (s .edge) *ℤ e (n -ℤ pos (suc (s .radius))) +ℤ pos (s .edge) *ℤ e (n +ℤ pos (suc (s .radius)))
-  passAt-taps s n = passAt-window s n ∙ rw (window-range (s .radius) n, ← sum-* (2 * s .radius + 1) (pos (s .inner)) (λ i. e (n -ℤ pos (s .radius) +ℤ pos i))) (simp ac)
 
   -- what enters less what leaves, on either side of the edge
   pub passAt-slide : (s : Stage) (n : ℤ) → passAt s e (sucℤ n) ≡ passAt s e n
