@@ -1,5 +1,5 @@
-// Walking a series continued beyond its ends. The extension of len cells repeats after 2 len, so one stands at one of 0 to 2 len - 1:
-// forward through the cells in the first half, and back in the second.
+// Walking a series continued beyond its ends. The extension of len cells repeats after 2 len. Where a whole number stands in that period is its
+// place, one of 0 to 2 len - 1: the first half of them goes forward through the cells, the second half back.
 ghost use mathlib.Core.Path.{_≡_};
 ghost use Prim.Native.Nat.{_+_, _*_, _^_, _≤_, _<_};
 ghost use lib.ListN.{length};
@@ -7,12 +7,13 @@ ghost use lib.IntN.{pos};
 ghost use Rattle.meaning.specs.Extension.{fold, ext};
 ghost use Rattle.theory.specs.Walk.{Stands};
 
+// A whole number from 0 on: so many whole periods, and its place.
 pub struct Periods {
     pub whole: usize,
     pub rest: usize,
 }
 
-// How many whole periods lie before i, and where it stands in its own.
+// How many whole periods lie before i, and where it stands in its own. The one division that reading beyond the ends takes.
 pub fn periods_before(i: usize, len: usize) -> Periods
     requires { ⌜ 1 ≤ len ⌝ }
     requires { ⌜ 2 * len < 2 ^ 64 ⌝ }
@@ -29,7 +30,7 @@ pub fn periods_before(i: usize, len: usize) -> Periods
     Periods { whole, rest }
 }
 
-// One on from a place.
+// The next place; behind the last the walk begins again.
 pub fn next(place: usize, len: usize) -> usize
     requires { ⌜ place < 2 * len ⌝ }
     requires { ⌜ 2 * len < 2 ^ 64 ⌝ }

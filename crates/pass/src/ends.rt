@@ -1,13 +1,15 @@
-// A pass near the ends of the series, where the window and the cells beside it reach beyond them.
+// A pass where the window or the cells beside it reach beyond the ends of the series.
 ghost use Prim.Native.Nat.{_≤_};
 ghost use lib.ListN.{length};
 ghost use Rattle.pass.specs.Ready.{Passable, Reached, Beside};
+use crate::inner::slide;
+use crate::inner::weigh;
 use extension::inner::next;
 use extension::inner::read;
 use plan::Plan;
 
-// Cells from start to end, where the cells beside the first window stand at low and high. Both walk on with the window.
-// What leaves it is the next cell on its low side.
+// The cells from start to end. sum is the window around start; low and high are the places of the cells beside it, which walk on with the window.
+// What leaves it is the next cell on its low side. Answers the window around end.
 pub(crate) fn walk(
     plan: Plan,
     src: &[i64],
@@ -34,9 +36,9 @@ pub(crate) fn walk(
         behind = next(behind, src.len());
         let first = read(src, behind);
         let hi = read(src, ahead);
-        let v = crate::inner::weigh(plan, w, lo, hi);
+        let v = weigh(plan, w, lo, hi);
         dst[n] = v;
-        w = crate::inner::slide(w, hi, first);
+        w = slide(w, hi, first);
         lo = first;
         ahead = next(ahead, src.len());
         n += 1;

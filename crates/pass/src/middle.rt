@@ -1,9 +1,12 @@
-// A pass in the middle of the series, where the window and the cells beside it lie within: nothing turns, and nothing is tested.
+// A pass where the window and the cells beside it lie within the series: nothing turns.
 ghost use Prim.Native.Nat.{_+_, _*_, _-_, _≤_};
 ghost use lib.ListN.{length};
 ghost use Rattle.pass.specs.Ready.{Passable, Reached};
+use crate::inner::slide;
+use crate::inner::weigh;
 use plan::Plan;
 
+// All such cells, from radius + 1 on. sum is the window around the first of them; answers the one behind the last.
 pub(crate) fn straight(plan: Plan, src: &[i64], sum: i64, dst: &mut [i64]) -> i64
     requires { ⌜ Passable plan (now src) (length (now dst)) ⌝ }
     requires { ⌜ Reached plan (now src) (now dst) (plan .radius + 1) sum ⌝ }
@@ -19,9 +22,9 @@ pub(crate) fn straight(plan: Plan, src: &[i64], sum: i64, dst: &mut [i64]) -> i6
         let lo = src[n - beyond];
         let first = src[n - radius];
         let hi = src[n + beyond];
-        let v = crate::inner::weigh(plan, w, lo, hi);
+        let v = weigh(plan, w, lo, hi);
         dst[n] = v;
-        w = crate::inner::slide(w, hi, first);
+        w = slide(w, hi, first);
         n += 1;
     }
     w
