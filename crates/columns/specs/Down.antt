@@ -21,7 +21,7 @@ use Rattle.theory.specs.Picture.{row-inside, length-down, cell-passed}
 use Rattle.plan.specs.declared.Plan.{Plan}
 use Rattle.plan.specs.Structs.{stageOf}
 use Rattle.pass.specs.Ready.{Beside}
-use Rattle.pass.specs.Course.{leaves-at, enters-at}
+use Rattle.pass.specs.Walking.{leaves-at, enters-at}
 use Rattle.pass.specs.Turn.{Roomy, room-step, room-fits}
 use Rattle.columns.specs.Ready.{Passable, passed, line, Begins, Around, stepped}
 use Rattle.columns.specs.First.{line-size, begins-read}

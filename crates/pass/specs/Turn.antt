@@ -1,7 +1,7 @@
--- One turn of each loop of a pass by running sums, over any row e.
+-- One turn of a pass by running sums, over any row e; and of a first window that grows from the centre outward.
 --   Windowed r e                   room for every window of radius up to r
 --   Roomy s e                      room for every sum of a pass of stage s
---   Widening e j s lo hi           the locals of the first window at radius j: s so far, lo and hi the cells on either side
+--   Widening e j s lo hi           the locals of that window at radius j: s so far, lo and hi the cells on either side
 --   Turn s e n b a w lo first hi   the locals of the pass at cell n: b and a the weights, w the window, lo and hi the cells
 --                                  on either side, first the one that leaves
 -- Laws: windowed (room for a pass is room for its windows), room-step (and for each of its steps), room-fits; widened-is, pair-fits, widened-fits; cell-is, cell-fits, low-next, slide-is, slide-fits;
@@ -50,7 +50,7 @@ room-step {s} h = step-size s (h .size) (h .some) (omega (arith, h .room))
 pub room-fits : {z : ℤ} → Abs z (2 * maxResult) → SFits w64 z
 room-fits h = fits-abs h (omega arith)
 
--- ---- the first window
+-- ---- a window from the centre outward
 pub record Widening (e : ℤ → ℤ) (j : ℕ) (s lo hi : ℤ) : Type 0 where
   pub sum : s ≡ window e j (pos 0)
   pub low : lo ≡ e (negsuc j)

@@ -8,7 +8,7 @@ use borrow.Author.Needs.{needs}
 use Rattle.theory.specs.Fill.{fill-done}
 use Rattle.theory.specs.Picture.{length-down, row-inside}
 use Rattle.pass.specs.Ready.{Beside}
-use Rattle.pass.specs.Course.{beside-start, beside-next}
+use Rattle.pass.specs.Walking.{beside-start, beside-next}
 use Rattle.columns.specs.Ready.{passed}
 use Rattle.columns.specs.First.{same-room, period-fits, first-written}
 use Rattle.columns.specs.Down.{around}

@@ -12,7 +12,8 @@ use Rattle.meaning.specs.Extension.{fold, ext}
 use Rattle.plan.specs.Structs.{stageOf}
 use Rattle.pass.specs.Ready.{Reached, Beside}
 use Rattle.pass.specs.Turn.{Turn, cell-fits, low-next, slide-fits, pass-room}
-use Rattle.pass.specs.Course.{reached-next, beside-next, low-read, leaves-read, high-read}
+use Rattle.pass.specs.Course.{reached-next}
+use Rattle.pass.specs.Walking.{beside-next, low-read, leaves-read, high-read}
 use Rattle.pass.proofs.ends.walk.Statement.{statement}
 use Rattle.pass.proofs.ends.walk.Tie as tie
 

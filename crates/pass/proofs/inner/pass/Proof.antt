@@ -11,7 +11,8 @@ use mir.Facts.{toZ-ofZ}
 use borrow.Author.Needs.{needs, sfits-of}
 use Rattle.pass.specs.Ready.{Reached, Beside}
 use Rattle.pass.specs.Turn.{summable}
-use Rattle.pass.specs.Course.{same-room, reached-start, reached-done, beside-start, beside-end}
+use Rattle.pass.specs.Course.{same-room, reached-start, reached-done}
+use Rattle.pass.specs.Walking.{beside-start, beside-end}
 use Rattle.pass.proofs.inner.pass.Statement.{statement}
 use Rattle.pass.proofs.inner.pass.Tie as tie
 
