@@ -1,14 +1,15 @@
 -- The first row of a pass down: rows added to a row of zeros, each times its weight. Column x is a series, so what is said of one is said of x.
---   Adds W src w i row g   to row may be added w times the row of src that begins at i, and its cells are then g
---   centre s e t           what lies on either side of 0 within the window, and the cell at the radius, which stands at t: in the window and at its low edge
--- Laws: line-size, begins-read (a cell of the row that begins there), same-room (for as many cells elsewhere), period-fits; rows-none, rows-next (one row more of those from 0 on);
--- periods-none, periods-ready, periods-done (whole periods), rest-ready, rest-done (and the rest), centre-added, edge-added; first-is, first-written (in its place).
+--   Adds W src w i row g         to row may be added w times the row of src that begins at i, and its cells are then g
+--   AddsRows W H src w k row g   the same of w times the first k rows of the extension
+--   centre s e t                 what lies on either side of 0 within the window, and the cell at the radius, which stands at t: in the window and at its low edge
+-- Laws: line-size, begins-read (a cell of the row that begins there), same-room (for as many cells elsewhere), period-fits; rows-none, rows-next (one row more of the first k);
+-- periods-none, periods-added (whole periods), rest-added (and the rest), centre-added, edge-added; first-is, first-written (in its place).
 use Prim.Native.Nat.{ℕ, _+_, _*_, _^_, _≤_, _<_}
-use mathlib.Core.Path.{_≡_, refl, sym, _∙_, ap, ap₂}
+use mathlib.Core.Path.{_≡_, refl, sym, _∙_, ap}
 use mathlib.Core.List.{List, [], _++_}
 use native.Mathlib.Nat.{zero-mul, le-mul-of-pos-right, mul-le-mul-right}
 use native.Mathlib.Omega.{arith}
-use lib.ListN.{length, take, replicate, length-replicate, getD-replicate}
+use lib.ListN.{length, take}
 use lib.IntN.{ℤ, pos, _+ℤ_, _*ℤ_, +ℤ-idl, +ℤ-idr, *ℤ-zero}
 use Rattle.algebra.specs.Expression.{_⊕_, _⊗_}
 use Rattle.algebra.specs.Solver.{ring, _≗_}
@@ -20,7 +21,7 @@ use Rattle.meaning.specs.Kernel.{Stage, tapSum, passAt}
 use Rattle.meaning.specs.Smoothing.{listOf, pass}
 use Rattle.meaning.specs.Picture as P
 use Rattle.theory.specs.HalfSample.{half-sample}
-use Rattle.theory.specs.Lists.{length-listOf, at-listOf, listOf-ext, listOf-at, listOf-const, Sized, sized-listOf}
+use Rattle.theory.specs.Lists.{length-listOf, at-listOf, listOf-ext, listOf-at, Sized, sized-listOf}
 use Rattle.theory.specs.Sizes.{ext-size}
 use Rattle.theory.specs.Fill.{fill-part}
 use Rattle.theory.specs.Walk.{Stands, stands-periods, stands-next, stands-ext}
@@ -28,7 +29,7 @@ use Rattle.theory.specs.Period.{upTo, upTo-none, upTo-next, upTo-size, upTo-who
 use Rattle.theory.specs.Picture.{length-row, length-column, row-part, ext-column, sized-column, length-down, cell-passed}
 use Rattle.plan.specs.declared.Plan.{Plan}
 use Rattle.plan.specs.Structs.{stageOf}
-use Rattle.columns.specs.Ready.{Passable, passed, line, added, Addable, rowsAdded, RowsAddable, sides, Begins}
+use Rattle.columns.specs.Ready.{Passable, passed, line, rowOf, added, Addable, rowsAdded, RowsAddable, sides, Begins}
 
 -- ---- columns
 pub line-size : (W H : ℕ) {M : ℕ} {f : List ℤ} → Sized M f → (x : ℕ) (z : ℤ) → Abs (line W H f x z) M
@@ -89,6 +90,32 @@ rows-next {w} {W} {H} {src} {start} h {k} l b e =
     more : (a c u y : ℤ) → a +ℤ c *ℤ u +ℤ c *ℤ y ≡ a +ℤ c *ℤ (u +ℤ y)
     more = ring 4 (λ a c u y. a ⊕ c ⊗ u ⊕ c ⊗ y ≗ a ⊕ c ⊗ (u ⊕ y)) refl
 
+-- k of them at once, where room is left and what comes out is known
+pub record AddsRows (W H : ℕ) (src : List ℤ) (w : ℤ) (k : ℕ) (row : List ℤ) (t : ℕ → ℤ) : Type 0 where
+  pub ready : RowsAddable w W H k src row
+  pub gives : {new : List ℤ} → new ≡ listOf W (rowsAdded w W H k src row) → new ≡ listOf W t
+
+adds-rows : {p : Plan} {W H : ℕ} {src : List ℤ} {n : ℕ} (h : Passable p W H src n) {w : ℤ} {c k : ℕ} → w ≡ pos c → k ≤ 2 * H → {row : List ℤ} (g : ℕ → ℤ) → row ≡ listOf W g
+    → {B : ℕ} → ((x : ℕ) → x < W → Abs (g x) B) → B + c * (k * h .largest) ≤ maxResult → {t : ℕ → ℤ} → ((x : ℕ) → g x +ℤ pos c *ℤ upTo (line W H src x) k ≡ t x) → AddsRows W H src w k row t
+unfolding rowsAdded
+adds-rows {W = W} h {c = c} w-is l g row-is {B} size room next = record {
+  ready = record {
+    wide = h .wide;
+    few = h .few;
+    cells = h .cells;
+    long = ap length row-is ∙ length-listOf W g;
+    within = l;
+    weight = c;
+    is = w-is;
+    largest = h .largest;
+    sized = h .sized;
+    held = B;
+    holds = rw row-is (sized-listOf W g size);
+    room = room;
+  };
+  gives = λ e. e ∙ listOf-ext W (λ x m. rw (w-is, ap (λ (r : List ℤ). at r x) row-is ∙ at-listOf W g x m) (next x));
+}
+
 -- ---- the row
 abbrev pub centre : Stage → (ℤ → ℤ) → ℕ → ℤ
 centre s e t = sides s e (s .radius) +ℤ pos (s .inner + s .edge) *ℤ e (pos t)
@@ -97,75 +124,48 @@ sides-size : (s : Stage) {M : ℕ} {e : ℤ → ℤ} → ((n : ℤ) → Abs (e n
 unfolding sides
 sides-size s h k = abs-* (abs-self (pos (2 * s .inner))) (upTo-size h k)
 
-abbrev pub sidesOf : Plan → ℕ → ℕ → List ℤ → ℕ → ℕ → ℤ
-sidesOf p W H f k x = sides (stageOf p) (line W H f x) k
+sides-none : (s : Stage) (e : ℤ → ℤ) → sides s e 0 ≡ pos 0
+unfolding sides
+sides-none s e = rw (upTo-none e) (*ℤ-zero (pos (2 * s .inner)))
+
+module _ (s : Stage) {p : ℕ} {e : ℤ → ℤ} (h : Repeats p e) where
+  sides-whole : (q : ℕ) → pos 0 +ℤ pos (2 * s .inner * q) *ℤ upTo e p ≡ sides s e (q * p)
+  unfolding sides
+  sides-whole q = +ℤ-idl _ ∙ *ℤ-assoc (pos (2 * s .inner)) (pos q) (upTo e p) ∙ ap (λ z. pos (2 * s .inner) *ℤ z) (sym (upTo-whole h q))
+
+  sides-rest : (q t : ℕ) → sides s e (q * p) +ℤ pos (2 * s .inner) *ℤ upTo e t ≡ sides s e (q * p + t)
+  unfolding sides
+  sides-rest q t = sym (*ℤ-+ℤ (pos (2 * s .inner)) (upTo e (q * p)) (upTo e t)) ∙ ap (λ z. pos (2 * s .inner) *ℤ z) (sym (upTo-rest h q t))
 
 module _ {p : Plan} {W H : ℕ} {src : List ℤ} {n : ℕ} (h : Passable p W H src n) {row : List ℤ} where
-  pub periods-none : row ≡ replicate W (pos 0) → (q : ℕ) → q ≡ 0 → row ≡ listOf W (sidesOf p W H src (q * (2 * H)))
-  unfolding sides
-  periods-none e q z = e ∙ sym (rw (z, zero-mul (2 * H)) (listOf-ext W (λ x l. rw (upTo-none (line W H src x)) (*ℤ-zero (pos (2 * p .inner)))) ∙ listOf-const W (pos 0)))
+  pub periods-none : row ≡ listOf W (λ x. pos 0) → {q : ℕ} → q ≡ 0 → row ≡ rowOf W H src (λ e. sides (stageOf p) e (q * (2 * H)))
+  periods-none e z = e ∙ listOf-ext W (λ x l. rw (z, zero-mul (2 * H)) (sym (sides-none (stageOf p) (line W H src x))))
 
-  pub periods-ready : row ≡ replicate W (pos 0) → (q : ℕ) → q * (2 * H) ≤ p .radius → {w : ℤ} → w ≡ pos (2 * p .inner * q) → RowsAddable w W H (2 * H) src row
+  pub periods-added : row ≡ listOf W (λ x. pos 0) → (q : ℕ) → q * (2 * H) ≤ p .radius → {w : ℤ} → w ≡ pos (2 * p .inner * q) → AddsRows W H src w (2 * H) row (λ x. sides (stageOf p) (line W H src x) (q * (2 * H)))
   unfolding tapSum
-  periods-ready e q l i = record {
-    wide = h .wide;
-    few = h .few;
-    cells = h .cells;
-    long = ap length e ∙ length-replicate W (pos 0);
-    within = omega arith;
-    weight = 2 * p .inner * q;
-    is = i;
-    largest = h .largest;
-    sized = h .sized;
-    held = 0;
-    holds = rw (e, ← listOf-const W (pos 0)) (sized-listOf W (λ x. pos 0) (λ x l. abs-self (pos 0)));
-    room = omega (arith, mul-le-mul-right (p .inner * h .largest) l, h .room);
-  }
-
-  pub periods-done : row ≡ replicate W (pos 0) → (q : ℕ) {w : ℤ} → w ≡ pos (2 * p .inner * q) → {new : List ℤ} → new ≡ listOf W (rowsAdded w W H (2 * H) src row) → new ≡ listOf W (sidesOf p W H src (q * (2 * H)))
-  unfolding rowsAdded sides
-  periods-done e q i g = g ∙ listOf-ext W (λ x l. ap₂ _+ℤ_ (ap (λ (r : List ℤ). at r x) e ∙ getD-replicate W x (pos 0) (pos 0) l) (ap (λ z. z *ℤ upTo (line W H src x) (2 * H)) i)
-      ∙ +ℤ-idl _
-      ∙ *ℤ-assoc (pos (2 * p .inner)) (pos q) (upTo (line W H src x) (2 * H))
-      ∙ ap (λ z. pos (2 * p .inner) *ℤ z) (sym (upTo-whole (line-repeats W H src x) q)))
+  periods-added e q l i =
+      adds-rows h i (omega arith) (λ x. pos 0) e {B = 0} (λ x m. abs-self (pos 0)) (omega (arith, mul-le-mul-right (p .inner * h .largest) l, h .room)) (λ x. sides-whole (stageOf p) (line-repeats W H src x) q)
 
   module _ (q : ℕ) {t : ℕ} (r : p .radius ≡ q * (2 * H) + t) (l : t < 2 * H) where
-    pub rest-ready : row ≡ listOf W (sidesOf p W H src (q * (2 * H))) → {w : ℤ} → w ≡ pos (2 * p .inner) → RowsAddable w W H t src row
+    pub rest-added : row ≡ rowOf W H src (λ e. sides (stageOf p) e (q * (2 * H))) → {w : ℤ} → w ≡ pos (2 * p .inner) → AddsRows W H src w t row (λ x. sides (stageOf p) (line W H src x) (p .radius))
     unfolding tapSum
-    rest-ready e i = record {
-      wide = h .wide;
-      few = h .few;
-      cells = h .cells;
-      long = ap length e ∙ length-listOf W _;
-      within = omega arith;
-      weight = 2 * p .inner;
-      is = i;
-      largest = h .largest;
-      sized = h .sized;
-      held = 2 * p .inner * (q * (2 * H) * h .largest);
-      holds = rw e (sized-listOf W _ (λ x l. sides-size (stageOf p) (line-size _ _ (h .sized) x) (q * (2 * H))));
-      room = omega (arith, ap (λ (k : ℕ). k * (p .inner * h .largest)) r, h .room);
-    }
+    rest-added e i =
+        adds-rows h i (omega arith) (λ x. sides (stageOf p) (line W H src x) (q * (2 * H))) e (λ x m. sides-size (stageOf p) (line-size W H (h .sized) x) (q * (2 * H)))
+        (omega (arith, ap (λ (k : ℕ). k * (p .inner * h .largest)) r, h .room)) (λ x. sides-rest (stageOf p) (line-repeats W H src x) q t ∙ ap (sides (stageOf p) (line W H src x)) (sym r))
 
-    pub rest-done : row ≡ listOf W (sidesOf p W H src (q * (2 * H))) → {w : ℤ} → w ≡ pos (2 * p .inner) → {new : List ℤ} → new ≡ listOf W (rowsAdded w W H t src row) → new ≡ listOf W (sidesOf p W H src (p .radius))
-    unfolding rowsAdded sides
-    rest-done e i g = g ∙ listOf-ext W (λ x l. ap₂ _+ℤ_ (ap (λ (r : List ℤ). at r x) e ∙ at-listOf W _ x l) (ap (λ z. z *ℤ upTo (line W H src x) t) i)
-        ∙ sym (*ℤ-+ℤ (pos (2 * p .inner)) (upTo (line W H src x) (q * (2 * H))) (upTo (line W H src x) t))
-        ∙ rw (r, upTo-rest (line-repeats W H src x) q t))
-
-    pub centre-added : {i : ℕ} → Begins W H (pos t) i → {w : ℤ} → w ≡ pos (p .inner + p .edge) → row ≡ listOf W (sidesOf p W H src (p .radius)) → Adds W src w i row (λ x. centre (stageOf p) (line W H src x) t)
+    pub centre-added : {i : ℕ} → Begins W H (pos t) i → {w : ℤ} → w ≡ pos (p .inner + p .edge) → row ≡ rowOf W H src (λ e. sides (stageOf p) e (p .radius)) → Adds W src w i row (λ x. centre (stageOf p) (line W H src x) t)
     unfolding tapSum
-    centre-added b i e = adds (h .tall) (h .cells) (h .sized) b i (sidesOf p W H src (p .radius)) e (λ x l. sides-size (stageOf p) (line-size _ _ (h .sized) x) (p .radius)) (omega (arith, h .room)) (λ x. refl)
+    centre-added b i e = adds (h .tall) (h .cells) (h .sized) b i (λ x. sides (stageOf p) (line W H src x) (p .radius)) e (λ x m. sides-size (stageOf p) (line-size W H (h .sized) x) (p .radius)) (omega (arith, h .room)) (λ x. refl)
 
-    pub edge-added : {i high : ℕ} → Stands H (pos (t + 1)) high → Begins W H (pos high) i → {w : ℤ} → w ≡ pos (p .edge) → row ≡ listOf W (λ x. centre (stageOf p) (line W H src x) t) → Adds W src w i row (λ x. passAt (stageOf p) (line W H src x) (pos 0))
+    pub edge-added : {i high : ℕ} → Stands H (pos (t + 1)) high → Begins W H (pos high) i → {w : ℤ} → w ≡ pos (p .edge) → row ≡ rowOf W H src (λ e. centre (stageOf p) e t) → Adds W src w i row (λ x. passAt (stageOf p) (line W H src x) (pos 0))
     unfolding tapSum
-    edge-added {high = high} u b i e =
+    edge-added u b i e =
         adds (h .tall) (h .cells) (h .sized) b i (λ x. centre (stageOf p) (line W H src x) t) e
-        (λ x l. abs-+ (sides-size (stageOf p) (line-size _ _ (h .sized) x) (p .radius)) (abs-* (abs-self (pos (p .inner + p .edge))) (line-size _ _ (h .sized) x (pos t))))
+        (λ x m. abs-+ (sides-size (stageOf p) (line-size W H (h .sized) x) (p .radius)) (abs-* (abs-self (pos (p .inner + p .edge))) (line-size W H (h .sized) x (pos t))))
         (omega (arith, h .room))
         (λ x. unfold sides in rw (line-stands W src x (stands-periods q l r), line-stands W src x (stands-next (stands-periods q l r) u {y = pos (p .radius + 1)} refl)) (sym (passAt-mirrored (ext-mirrored (P.column W H src x)) (stageOf p))))
 
-  pub first-is : row ≡ listOf W (λ x. passAt (stageOf p) (line W H src x) (pos 0)) → row ≡ P.row W (passed p W H src) 0
+  pub first-is : row ≡ rowOf W H src (λ e. passAt (stageOf p) e (pos 0)) → row ≡ P.row W (passed p W H src) 0
   unfolding P.row
   first-is e = e ∙ listOf-ext W (λ x l. sym (cell-passed fold (stageOf p) W H src x 0 l (h .tall)))
 

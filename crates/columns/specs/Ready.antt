@@ -2,6 +2,7 @@
 --   Passable p W H src n     one pass of p down src into n cells: as many cells, and room for every sum of the pass
 --   passed p W H src         what that pass writes
 --   line W H f x             column x of f, without ends
+--   rowOf W H f g            the row whose cell x is g of column x
 --   added w src start row x  cell x of a row, with w times its cell of the row of src that begins at start
 --   Addable w src start row  room for each of those
 --   rowsAdded w W H k src row x  cell x of a row, with w times each of the first k cells of column x
@@ -20,7 +21,7 @@ use mir.Val.{SFits}
 use Rattle.meaning.specs.Limits.{maxResult, maxLength}
 use Rattle.meaning.specs.Extension.{at, fold, ext}
 use Rattle.meaning.specs.Kernel.{Stage, tapSum}
-use Rattle.meaning.specs.Smoothing.{pass}
+use Rattle.meaning.specs.Smoothing.{listOf, pass}
 use Rattle.meaning.specs.Picture.{column, down}
 use Rattle.theory.specs.Lists.{Sized}
 use Rattle.theory.specs.Period.{upTo}
@@ -44,6 +45,9 @@ passed p W H src = down (pass fold (stageOf p)) W H src
 
 abbrev pub line : ℕ → ℕ → List ℤ → ℕ → ℤ → ℤ
 line W H f x = ext fold (column W H f x)
+
+abbrev pub rowOf : ℕ → ℕ → List ℤ → ((ℤ → ℤ) → ℤ) → List ℤ
+rowOf W H f g = listOf W (λ x. g (line W H f x))
 
 unfoldable pub added : ℤ → List ℤ → ℕ → List ℤ → ℕ → ℤ
 added w src start row x = at row x +ℤ w *ℤ at src (start + x)

@@ -11,7 +11,7 @@ ghost use Rattle.meaning.specs.Smoothing.{listOf};
 ghost use Rattle.meaning.specs.Picture as P;
 ghost use Rattle.plan.specs.Structs.{stageOf};
 ghost use Rattle.plan.specs.Tested.{Tested};
-ghost use Rattle.columns.specs.Ready.{Addable, added, Around, Begins, line, Passable, passed, RowsAddable, rowsAdded, sides, stepped};
+ghost use Rattle.columns.specs.Ready.{Addable, added, Around, Begins, Passable, passed, rowOf, RowsAddable, rowsAdded, sides, stepped};
 use extension::inner::next;
 use extension::inner::periods_before;
 use plan::Plan;
@@ -64,7 +64,7 @@ fn whole_periods(
     requires { ⌜ Passable plan width height (now src) (width * height) ⌝ }
     requires { ⌜ length (now row) ≡ width ⌝ }
     requires { ⌜ periods * (2 * height) ≤ plan .radius ⌝ }
-    ensures { λ _. ⌜ now (row .exit) ≡ listOf width (λ x. sides (stageOf plan) (line width height (now (src .entry)) x) (periods * (2 * height))) ⌝ }
+    ensures { λ _. ⌜ now (row .exit) ≡ rowOf width height (now (src .entry)) (λ e. sides (stageOf plan) e (periods * (2 * height))) ⌝ }
 {
     pass::inner::clear(row);
     if periods == 0 {

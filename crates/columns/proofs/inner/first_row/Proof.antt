@@ -1,6 +1,5 @@
 -- Whole periods and the rest, then the two rows at the edges.
-use Prim.Native.Nat.{_+_}
-use mathlib.Core.Path.{_≡_}
+use Prim.Native.Nat.{_+_, _*_}
 use native.Mathlib.Omega.{arith}
 use lib.IntN.{pos}
 use mir.Syntax.{w64}
@@ -8,10 +7,9 @@ use mir.Val.{toZ}
 use mir.Facts.{toZ-pos}
 use borrow.Author.Needs.{needs}
 use Rattle.meaning.specs.Kernel.{passAt}
-use Rattle.meaning.specs.Smoothing.{listOf}
 use Rattle.plan.specs.Structs.{stageOf}
-use Rattle.columns.specs.Ready.{line}
-use Rattle.columns.specs.First.{period-fits, Adds, sidesOf, centre, rest-ready, rest-done, centre-added, edge-added, first-is}
+use Rattle.columns.specs.Ready.{line, sides}
+use Rattle.columns.specs.First.{period-fits, Adds, AddsRows, centre, rest-added, centre-added, edge-added, first-is}
 use Rattle.columns.proofs.inner.first_row.Statement.{statement}
 use Rattle.columns.proofs.inner.first_row.Tie as tie
 
@@ -24,17 +22,15 @@ mul-add-rows c = search needs
 cast-add-rows : tie.Need-cast-add-rows
 cast-add-rows c = search needs
 
-add-rows-requires : tie.Need-add-rows-requires
-add-rows-requires c κs =
+rest : (c : tie.After-add-rows-arg) →
+    let a = c .before .before .before .before .before .args in
+    AddsRows (a .width) (a .height) (a .src .now) (toZ w64 (2 * a .plan .inner)) (a .rest) (c .before .before .before .whole-periods .last .1 .1 .1 .1 .1 .0) (λ x. sides (stageOf (a .plan)) (line (a .width) (a .height) (a .src .now) x) (a .plan .radius))
+rest c =
     let a = c .before .before .before .before .before in
-    rest-ready (a .pre .0) (a .args .whole) (a .pre .1 .1 .0) (a .pre .1 .1 .1) (c .before .before .before .whole-periods .ensures) (toZ-pos w64 (omega arith))
+    rest-added (a .pre .0) (a .args .whole) (a .pre .1 .1 .0) (a .pre .1 .1 .1) (c .before .before .before .whole-periods .ensures) (toZ-pos w64 (omega arith))
 
-within : (c : tie.After-add-rows) →
-    let a = c .before .before .before .before .before .before .args in
-    c .add-rows .last .1 .1 .1 .1 .1 .0 ≡ listOf (a .width) (sidesOf (a .plan) (a .width) (a .height) (a .src .now) (a .plan .radius))
-within c =
-    let a = c .before .before .before .before .before .before in
-    rest-done (a .pre .0) (a .args .whole) (a .pre .1 .1 .0) (a .pre .1 .1 .1) (c .before .before .before .before .whole-periods .ensures) (toZ-pos w64 (omega arith)) (c .add-rows .ensures)
+add-rows-requires : tie.Need-add-rows-requires
+add-rows-requires c κs = rest c .ready
 
 add-add-row : tie.Need-add-add-row
 add-add-row c = search needs
@@ -50,7 +46,7 @@ middle : (c : tie.After-add-row-arg) →
     Adds (a .width) (a .src .now) (toZ w64 (a .plan .inner + a .plan .edge)) (c .before .row-at .result) (c .before .before .before .before .add-rows .last .1 .1 .1 .1 .1 .0) (λ x. centre (stageOf (a .plan)) (line (a .width) (a .height) (a .src .now) x) (a .rest))
 middle c =
     let a = c .before .before .before .before .before .before .before .before .before .before in
-    centre-added (a .pre .0) (a .args .whole) (a .pre .1 .1 .0) (a .pre .1 .1 .1) (c .before .row-at .ensures) (toZ-pos w64 (omega arith)) (within (c .before .before .before .before))
+    centre-added (a .pre .0) (a .args .whole) (a .pre .1 .1 .0) (a .pre .1 .1 .1) (c .before .row-at .ensures) (toZ-pos w64 (omega arith)) (rest (c .before .before .before .before .before) .gives (c .before .before .before .before .add-rows .ensures))
 
 add-row-requires : tie.Need-add-row-requires
 add-row-requires c κs = middle c .ready

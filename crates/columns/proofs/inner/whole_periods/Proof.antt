@@ -1,6 +1,6 @@
 -- A period is added where there is one.
 use Prim.Native.Nat.{_*_, _^_, _<_}
-use mathlib.Core.Path.{_≡_, _∙_, ap}
+use mathlib.Core.Path.{_≡_, sym, _∙_, ap}
 use native.Mathlib.Nat.{le-trans, mul-le-mul, le-mul-of-pos-right}
 use native.Mathlib.Omega.{arith}
 use lib.ListN.{replicate}
@@ -9,21 +9,25 @@ use mir.Syntax.{w64}
 use mir.Val.{toZ}
 use mir.Facts.{toZ-pos}
 use borrow.Author.Needs.{needs}
-use Rattle.columns.specs.First.{period-fits, periods-none, periods-ready, periods-done}
+use Rattle.meaning.specs.Smoothing.{listOf}
+use Rattle.theory.specs.Lists.{listOf-const}
+use Rattle.plan.specs.Structs.{stageOf}
+use Rattle.columns.specs.Ready.{line, sides}
+use Rattle.columns.specs.First.{period-fits, AddsRows, periods-none, periods-added}
 use Rattle.columns.proofs.inner.whole_periods.Statement.{statement}
 use Rattle.columns.proofs.inner.whole_periods.Tie as tie
 
 clear-requires : tie.Need-clear-requires
 clear-requires c κs = search needs
 
-zeros : (c : tie.After-clear) → c .clear .last .0 ≡ replicate (c .before .before .args .width) (pos 0)
-zeros c = c .clear .ensures ∙ ap (λ n. replicate n (pos 0)) (c .before .before .pre .1 .0)
+zeros : (c : tie.After-clear) → c .clear .last .0 ≡ listOf (c .before .before .args .width) (λ x. pos 0)
+zeros c = c .clear .ensures ∙ ap (λ n. replicate n (pos 0)) (c .before .before .pre .1 .0) ∙ sym (listOf-const _ (pos 0))
 
 same-length : tie.Need-same-length
 same-length c = search needs
 
 returns : tie.Need-returns
-returns c = periods-none (c .before .before .before .before .pre .0) (zeros (c .before .before)) _ (c .if1 .taken)
+returns c = periods-none (c .before .before .before .before .pre .0) (zeros (c .before .before)) (c .if1 .taken)
 
 mul-weight : tie.Need-mul-weight
 mul-weight c = search needs
@@ -48,18 +52,21 @@ cast-weight c = record { sfits = omega (arith, few c) }
 mul-add-rows : tie.Need-mul-add-rows
 mul-add-rows c = omega (arith, period-fits (c .before .before .before .before .before .pre .0))
 
-add-rows-requires : tie.Need-add-rows-requires
-add-rows-requires c κs =
+adds : (c : tie.After-add-rows-arg) →
+    let a = c .before .before .before .before .before .before .args in
+    AddsRows (a .width) (a .height) (a .src .now) (toZ w64 (2 * a .plan .inner * a .periods)) (2 * a .height) (c .before .before .before .before .clear .last .0) (λ x. sides (stageOf (a .plan)) (line (a .width) (a .height) (a .src .now) x) (a .periods * (2 * a .height)))
+adds c =
     let a = c .before .before .before .before .before .before in
-    periods-ready (a .pre .0) (zeros (c .before .before .before .before)) (a .args .periods) (a .pre .1 .1) (weight-is (c .before))
+    periods-added (a .pre .0) (zeros (c .before .before .before .before)) (a .args .periods) (a .pre .1 .1) (weight-is (c .before))
+
+add-rows-requires : tie.Need-add-rows-requires
+add-rows-requires c κs = adds c .ready
 
 same-length-2 : tie.Need-same-length-2
 same-length-2 c = search needs
 
 returns-2 : tie.Need-returns-2
-returns-2 c =
-    let a = c .before .before .before .before .before .before .before .before in
-    periods-done (a .pre .0) (zeros (c .before .before .before .before .before .before)) (a .args .periods) (weight-is (c .before .before .before)) (c .before .add-rows .ensures)
+returns-2 c = adds (c .before .before) .gives (c .before .add-rows .ensures)
 
 pub whole-periods-spec : {M : Type 1} → statement M
 whole-periods-spec =
