@@ -27,10 +27,11 @@ module _ {p : Plan} {f d : List ℤ} where
   reached-start e i = record { sum = rw e i; front = refl }
 
   module _ {n : ℕ} {w b a lo first hi : ℤ} (h : Reached p f d n w) (t : Turn (stageOf p) (ext fold f) n b a w lo first hi) where
-    pub reached-next : length d ≡ length f → n < length f → {u v : ℤ} → v ≡ b *ℤ w +ℤ a *ℤ (lo +ℤ hi) → u ≡ w +ℤ hi -ℤ first → Reached p f (set d n v) (n + 1) u
-    reached-next s l {u} {v} i j = record {
-      sum = j ∙ slide-is t;
-      front = fill-next _ d n (h .front) v (omega arith) (rw length-pass l) (cell-is t i ∙ sym (at-pass fold _ _ n l));
+    -- v′ is v and u′ is u, as their words hold them
+    pub reached-next : length d ≡ length f → n < length f → {v v′ : ℤ} → v′ ≡ v → v ≡ b *ℤ w +ℤ a *ℤ (lo +ℤ hi) → {u u′ : ℤ} → u′ ≡ u → u ≡ w +ℤ hi -ℤ first → Reached p f (set d n v′) (n + 1) u′
+    reached-next s l {v′ = v′} iv i ju j = record {
+      sum = ju ∙ j ∙ slide-is t;
+      front = fill-next _ d n (h .front) v′ (omega arith) (rw length-pass l) (iv ∙ cell-is t i ∙ sym (at-pass fold _ _ n l));
     }
 
   pub reached-done : {n : ℕ} {w : ℤ} → Reached p f d n w → length d ≡ length f → n ≡ length f → d ≡ pass fold (stageOf p) f

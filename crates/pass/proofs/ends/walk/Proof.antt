@@ -84,7 +84,7 @@ loop-again c =
     let t = turn (c .before .before .before) in (
       omega arith,
       simp length-set (l .inv .1),
-      reached-next (l .inv .2) t (l .inv .1) (omega arith) (toZ-ofZ (sfits-of (c .before .before .weigh .ok)) ∙ c .before .before .weigh .ensures) (toZ-ofZ (sfits-of (c .before .slide .ok)) ∙ c .before .slide .ensures),
+      reached-next (l .inv .2) t (l .inv .1) (omega arith) (toZ-ofZ (sfits-of (c .before .before .weigh .ok))) (c .before .before .weigh .ensures) (toZ-ofZ (sfits-of (c .before .slide .ok))) (c .before .slide .ensures),
       beside-next (l .inv .3) (c .before .before .before .before .before .next .ensures) (c .next2 .ensures),
       low-next t,
     )

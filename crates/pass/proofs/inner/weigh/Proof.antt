@@ -30,7 +30,7 @@ cell-requires c κs =
 returns : tie.Need-returns
 returns c =
     let a = c .before .before .before in
-    toZ-ofZ (sfits-of (c .cell .ok)) ∙ c .cell .ensures ∙ rw (inner-is (c .before), edge-is (c .before), toZ-ofZ (a .fits .w), toZ-ofZ (a .fits .lo), toZ-ofZ (a .fits .hi))
+    toZ-ofZ (sfits-of (c .cell .ok)) ∙ (rw (inner-is (c .before), edge-is (c .before), toZ-ofZ (a .fits .w), toZ-ofZ (a .fits .lo), toZ-ofZ (a .fits .hi)) at (c .cell .ensures))
 
 pub weigh-spec : {M : Type 1} → statement M
 weigh-spec = tie.close (tie.spec cast-cell cast-cell-2 cell-requires returns)

@@ -1,6 +1,6 @@
 -- Before cell n, w is the window around n; the first n cells are written. The three cells read lie within the series.
 use Prim.Native.Nat.{_+_, _-_, _≤_}
-use mathlib.Core.Path.{_≡_, refl, _∙_}
+use mathlib.Core.Path.{_≡_, refl}
 use native.Mathlib.Omega.{arith}
 use lib.ListN.{length, length-set}
 use lib.IntN.{pos}
@@ -102,7 +102,7 @@ loop-again c =
       omega arith,
       omega arith,
       simp length-set (l .inv .2),
-      reached-next (l .inv .3) (turn (c .before .before)) (l .inv .2) (omega arith) (toZ-ofZ (sfits-of (c .before .weigh .ok)) ∙ c .before .weigh .ensures) (toZ-ofZ (sfits-of (c .slide .ok)) ∙ c .slide .ensures),
+      reached-next (l .inv .3) (turn (c .before .before)) (l .inv .2) (omega arith) (toZ-ofZ (sfits-of (c .before .weigh .ok))) (c .before .weigh .ensures) (toZ-ofZ (sfits-of (c .slide .ok))) (c .slide .ensures),
     )
 
 same-length : tie.Need-same-length Inv-loop μ-loop
