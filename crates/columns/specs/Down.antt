@@ -24,7 +24,7 @@ use Rattle.pass.specs.Ready.{Beside}
 use Rattle.pass.specs.Walking.{leaves-at, enters-at}
 use Rattle.pass.specs.Turn.{Roomy, room-step, room-fits}
 use Rattle.columns.specs.Ready.{Passable, passed, line, Begins, Around, stepped}
-use Rattle.columns.specs.First.{line-size, begins-read}
+use Rattle.columns.specs.Adding.{line-size, begins-read}
 
 -- ---- cells
 module _ {p : Plan} {W H : ℕ} {src : List ℤ} {n : ℕ} (h : Passable p W H src n) where

@@ -74,8 +74,8 @@ fn whole_periods(
     add_rows(weight, width, height, 2 * height, src, row);
 }
 
-// Row 0 of the pass, whose radius is so many whole periods and a rest. What stands at -1 - j stands at j: so it is twice the rows from 0 up to the radius,
-// and one row at the radius, all within the window, and at its edges the row at the radius and the next.
+// Row 0 of the pass, whose radius is so many whole periods and a rest. What stands at -1 - j stands at j. So the rows from 0 up to the radius count
+// twice within the window; the row at the radius once, and at the low edge; the next at the high edge.
 fn first_row(
     plan: Plan,
     whole: usize,
@@ -158,7 +158,7 @@ fn next_row(
     }
 }
 
-// One pass of src into dst, every cell of it. Two rows walk the extension: low, before the window, and enters, behind it.
+// One pass of src into dst, every cell of it. Two rows walk the extension: low, before the window, and enters, after it.
 pub fn pass(plan: Plan, width: usize, height: usize, src: &[i64], dst: &mut [i64])
     requires { ⌜ Passable plan width height (now src) (length (now dst)) ⌝ }
     ensures { λ _. ⌜ now (dst .exit) ≡ passed plan width height (now (src .entry)) ⌝ }

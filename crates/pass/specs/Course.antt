@@ -1,6 +1,6 @@
 -- How far a pass over f has come, cell by cell.
 -- Laws: same-room (what was written has as many cells), reached-start, reached-next (one cell more, by a turn), reached-done;
--- ahead-read, behind-read (a cell within the series is read as it stands).
+-- inside-read, inside-back (within the series, a cell and one k back from n).
 use Prim.Native.Nat.{ℕ, _+_, _-_, _≤_, _<_}
 use mathlib.Core.Path.{_≡_, refl, sym, _∙_, ap}
 use mathlib.Core.List.{List}
@@ -38,9 +38,9 @@ module _ {p : Plan} {f d : List ℤ} where
   reached-done {n} h s e = fill-done _ d n (h .front) (omega arith) (rw length-pass (omega arith))
 
 -- ---- within the series
-pub ahead-read : (f : List ℤ) {i : ℕ} → i < length f → {x : ℤ} → x ≡ at f i → x ≡ ext fold f (pos i)
+pub inside-read : (f : List ℤ) {i : ℕ} → i < length f → {x : ℤ} → x ≡ at f i → x ≡ ext fold f (pos i)
 unfolding ext
-ahead-read f l e = e ∙ ap (at f) (sym (half-sample .here l))
+inside-read f l e = e ∙ ap (at f) (sym (half-sample .here l))
 
-pub behind-read : (f : List ℤ) {n k : ℕ} → k ≤ n → n - k < length f → {x : ℤ} → x ≡ at f (n - k) → x ≡ ext fold f (pos n -ℤ pos k)
-behind-read f {n} {k} l m e = rw (sub-pos n k l) (ahead-read f m e)
+pub inside-back : (f : List ℤ) {n k : ℕ} → k ≤ n → n - k < length f → {x : ℤ} → x ≡ at f (n - k) → x ≡ ext fold f (pos n -ℤ pos k)
+inside-back f {n} {k} l m e = rw (sub-pos n k l) (inside-read f m e)

@@ -1,6 +1,6 @@
 -- The first window of a pass: sums of the extension of f from 0 on.
 -- Laws: fewer (room for fewer cells), sum-fits (one cell more), periods-fit (a period, q times);
--- sides-is, sides-fit (both sides of the window and the cell between, where the radius is q periods and t).
+-- sides-is, sides-fit (both sides of the window and the cell at the radius, which is q periods and t).
 use Prim.Native.Nat.{ℕ, _+_, _*_, _≤_, _<_}
 use mathlib.Core.Path.{_≡_, refl, sym, _∙_, ap₂}
 use mathlib.Core.List.{List}
@@ -15,7 +15,7 @@ use Rattle.meaning.specs.Extension.{fold, ext}
 use Rattle.theory.specs.Sizes.{ext-size}
 use Rattle.theory.specs.Slide.{window}
 use Rattle.theory.specs.Walk.{stands-periods, stands-ext}
-use Rattle.theory.specs.Period.{upTo, upTo-next, upTo-size, upTo-whole, upTo-rest, window-mirrored, ext-repeats, ext-mirrored}
+use Rattle.theory.specs.Period.{upTo, upTo-next, upTo-size, upTo-periods, window-mirrored, ext-repeats, ext-mirrored}
 use Rattle.pass.specs.Ready.{Summable}
 
 pub fewer : {j k : ℕ} {f : List ℤ} → Summable k f → j ≤ k → Summable j f
@@ -34,7 +34,7 @@ module _ (f : List ℤ) where
   -- the locals of the first window
   module _ (q : ℕ) {t : ℕ} (l : t < 2 * length f) {periods part last : ℤ} (i : periods ≡ pos q *ℤ upTo e (2 * length f)) (j : part ≡ upTo e t) (k : last ≡ e (pos t)) where
     side-is : periods +ℤ part ≡ upTo e (q * (2 * length f) + t)
-    side-is = ap₂ _+ℤ_ (i ∙ sym (upTo-whole (ext-repeats f) q)) j ∙ sym (upTo-rest (ext-repeats f) q t)
+    side-is = ap₂ _+ℤ_ i j ∙ sym (upTo-periods (ext-repeats f) q t)
 
     pub sides-is : periods +ℤ part +ℤ (periods +ℤ part) +ℤ last ≡ window e (q * (2 * length f) + t) (pos 0)
     sides-is = rw (side-is, k, stands-ext f (stands-periods q l refl)) (sym (window-mirrored (ext-mirrored f) (q * (2 * length f) + t)))

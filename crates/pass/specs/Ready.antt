@@ -1,5 +1,5 @@
 -- What a pass asks, and how far it has come.
---   Summable k src           room for every sum of up to k cells
+--   Summable k src           room for every sum of up to k cells, and for k
 --   Passable p src n         one pass of p from src into n cells: as many cells, and room for every sum of the pass
 --   Reached p src dst n w    the first n cells of dst are written, and w is the window around n
 --   Beside p N n low high    where the two cells beside the window around n stand, in the extension of N cells

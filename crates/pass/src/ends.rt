@@ -29,18 +29,18 @@ pub(crate) fn walk(
 {
     let mut w = sum;
     let mut lo = read(src, low);
-    let mut behind = low;
-    let mut ahead = high;
+    let mut low_at = low;
+    let mut high_at = high;
     let mut n = start;
     while n < end {
-        behind = next(behind, src.len());
-        let first = read(src, behind);
-        let hi = read(src, ahead);
+        low_at = next(low_at, src.len());
+        let first = read(src, low_at);
+        let hi = read(src, high_at);
         let v = weigh(plan, w, lo, hi);
         dst[n] = v;
         w = slide(w, hi, first);
         lo = first;
-        ahead = next(ahead, src.len());
+        high_at = next(high_at, src.len());
         n += 1;
     }
     w

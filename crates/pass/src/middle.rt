@@ -6,7 +6,7 @@ use crate::inner::slide;
 use crate::inner::weigh;
 use plan::Plan;
 
-// All such cells, from radius + 1 on. sum is the window around the first of them; answers the one behind the last.
+// All such cells, from radius + 1 on. sum is the window around the first of them; answers the one after the last.
 pub(crate) fn straight(plan: Plan, src: &[i64], sum: i64, dst: &mut [i64]) -> i64
     requires { ⌜ Passable plan (now src) (length (now dst)) ⌝ }
     requires { ⌜ Reached plan (now src) (now dst) (plan .radius + 1) sum ⌝ }

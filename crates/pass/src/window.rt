@@ -38,7 +38,7 @@ fn sum_periods(src: &[i64], periods: usize) -> i64
     (periods as i64) * one
 }
 
-// Whole periods and a part of one on either side, and the cell between them.
+// Whole periods and a part of one, on either side, and the last cell.
 fn both_sides(periods: i64, part: i64, last: i64) -> i64
     requires { ⌜ SFits w64 (periods +ℤ part) ⌝ }
     requires { ⌜ SFits w64 (periods +ℤ part +ℤ (periods +ℤ part)) ⌝ }

@@ -2,15 +2,15 @@
 --   upTo e k      e 0 + e 1 + .. + e (k - 1)
 --   Repeats p e   from 0 on, e repeats after p
 --   Mirrored e    what stands at -1 - n stands at n
--- Laws: upTo-none, upTo-next, upTo-size, upTo-whole (q periods), upTo-rest (and t cells more); window-mirrored, passAt-mirrored; ext-repeats, ext-mirrored (of a series).
+-- Laws: upTo-none, upTo-next, upTo-size, upTo-periods (q periods and t cells more), upTo-whole (q periods); window-mirrored, passAt-mirrored; ext-repeats, ext-mirrored (of a series).
 use mathlib.Core.Path.{_≡_, refl, sym, _∙_, ap, ap₂}
 use mathlib.Core.List.{List, [], _∷_}
 use Prim.Native.Nat.{ℕ, zero, suc, _+_, _*_}
-use native.Mathlib.Nat.{add-comm, zero-mul}
+use native.Mathlib.Nat.{add-comm}
 use native.Mathlib.Numerals.{add-one}
 use native.Mathlib.Omega.{arith}
 use lib.ListN.{length}
-use lib.IntN.{ℤ, pos, negsuc, _+ℤ_, _*ℤ_, +ℤ-idl, zero-*ℤ, sucℤ-*ℤ}
+use lib.IntN.{ℤ, pos, negsuc, _+ℤ_, _*ℤ_, +ℤ-idl, +ℤ-idr, zero-*ℤ, sucℤ-*ℤ}
 use Rattle.algebra.specs.Expression.{_⊕_, _⊗_}
 use Rattle.algebra.specs.Solver.{ring, _≗_}
 use Rattle.algebra.specs.Ring.{ac}
@@ -48,20 +48,18 @@ module _ {p : ℕ} {e : ℤ → ℤ} (h : Repeats p e) where
   unfolding upTo
   one-more k = sum-split p k _ ∙ ap (λ z. sum p (λ i. e (pos i)) +ℤ z) (sum-ext k (λ i l. h .again i))
 
-  pub upTo-whole : (q : ℕ) → upTo e (q * p) ≡ pos q *ℤ upTo e p
-  upTo-whole zero = rw (zero-mul p, upTo-none e) (sym (zero-*ℤ (upTo e p)))
-  upTo-whole (suc q) =
-      let on : suc q * p ≡ p + q * p = omega arith in
-      rw (on, one-more (q * p), upTo-whole q, sucℤ-*ℤ (pos q) (upTo e p)) (simp ac)
-
-  pub upTo-rest : (q t : ℕ) → upTo e (q * p + t) ≡ upTo e (q * p) +ℤ upTo e t
-  upTo-rest zero t =
+  pub upTo-periods : (q t : ℕ) → upTo e (q * p + t) ≡ pos q *ℤ upTo e p +ℤ upTo e t
+  upTo-periods zero t =
       let none : 0 * p + t ≡ t = omega arith in
-      rw (none, zero-mul p, upTo-none e) (sym (+ℤ-idl (upTo e t)))
-  upTo-rest (suc q) t =
-      let on : suc q * p ≡ p + q * p = omega arith in
-      let more : suc q * p + t ≡ p + (q * p + t) = omega arith in
-      rw (more, on, one-more (q * p + t), one-more (q * p), upTo-rest q t) (simp ac)
+      rw (none, zero-*ℤ (upTo e p)) (sym (+ℤ-idl (upTo e t)))
+  upTo-periods (suc q) t =
+      let on : suc q * p + t ≡ p + (q * p + t) = omega arith in
+      rw (on, one-more (q * p + t), upTo-periods q t, sucℤ-*ℤ (pos q) (upTo e p)) (simp ac)
+
+  pub upTo-whole : (q : ℕ) → upTo e (q * p) ≡ pos q *ℤ upTo e p
+  upTo-whole q =
+      let none : q * p ≡ q * p + 0 = omega arith in
+      ap (upTo e) none ∙ upTo-periods q 0 ∙ rw (upTo-none e) (+ℤ-idr _)
 
 -- ---- around 0
 module _ {e : ℤ → ℤ} (h : Mirrored e) where

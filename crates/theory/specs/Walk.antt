@@ -1,6 +1,6 @@
 -- Walking the half-sample extension of N samples forward, by where one stands in its period of 2N.
 --   Stands N z m   the whole number z stands at m, one of 0 to 2N - 1
--- Laws: stands-here (those stand at themselves), stands-periods (so does what lies whole periods farther), stands-turn (the period's end is its start),
+-- Laws: stands-here (those stand at themselves), stands-periods (so does what lies whole periods farther),
 -- stands-next (one on), stands-mirror (-1 - z), stands-fold, stands-ext (what z reads is read there).
 use mathlib.Core.Path.{_≡_, sym, _∙_, ap}
 use mathlib.Core.List.{List}
@@ -22,9 +22,6 @@ stands-periods q h e = record { below = h; is = emod-is {q = pos q} (record { be
 
 pub stands-here : {N m : ℕ} → m < 2 * N → Stands N (pos m) m
 stands-here h = record { below = h; is = emod-small h }
-
-pub stands-turn : {N i : ℕ} → 0 < N → i ≡ 2 * N → Stands N (pos i) 0
-stands-turn {N} h e = stands-periods 1 (omega arith) (omega arith)
 
 -- ---- from one to another
 module _ {N : ℕ} {z : ℤ} {m : ℕ} (s : Stands N z m) where

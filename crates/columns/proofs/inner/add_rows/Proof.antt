@@ -10,7 +10,7 @@ use borrow.Author.Needs.{needs}
 use Rattle.meaning.specs.Smoothing.{listOf}
 use Rattle.theory.specs.Lists.{length-listOf}
 use Rattle.columns.specs.Ready.{rowsAdded}
-use Rattle.columns.specs.First.{Adds, rows-none, rows-next}
+use Rattle.columns.specs.Adding.{Adds, rows-none, rows-next}
 use Rattle.columns.proofs.inner.add_rows.Statement.{statement}
 use Rattle.columns.proofs.inner.add_rows.Tie as tie
 

@@ -9,7 +9,8 @@ use borrow.Author.Needs.{needs}
 use Rattle.meaning.specs.Kernel.{passAt}
 use Rattle.plan.specs.Structs.{stageOf}
 use Rattle.columns.specs.Ready.{line, sides}
-use Rattle.columns.specs.First.{period-fits, Adds, AddsRows, centre, rest-added, centre-added, edge-added, first-is}
+use Rattle.columns.specs.Adding.{Adds, AddsRows}
+use Rattle.columns.specs.First.{period-fits, lower, rest-added, low-added, high-added, first-is}
 use Rattle.columns.proofs.inner.first_row.Statement.{statement}
 use Rattle.columns.proofs.inner.first_row.Tie as tie
 
@@ -41,15 +42,15 @@ cast-add-row c = search needs
 row-at-requires : tie.Need-row-at-requires
 row-at-requires c κs = search needs
 
-middle : (c : tie.After-add-row-arg) →
+low : (c : tie.After-add-row-arg) →
     let a = c .before .before .before .before .before .before .before .before .before .before .args in
-    Adds (a .width) (a .src .now) (toZ w64 (a .plan .inner + a .plan .edge)) (c .before .row-at .result) (c .before .before .before .before .add-rows .last .1 .1 .1 .1 .1 .0) (λ x. centre (stageOf (a .plan)) (line (a .width) (a .height) (a .src .now) x) (a .rest))
-middle c =
+    Adds (a .width) (a .src .now) (toZ w64 (a .plan .inner + a .plan .edge)) (c .before .row-at .result) (c .before .before .before .before .add-rows .last .1 .1 .1 .1 .1 .0) (λ x. lower (stageOf (a .plan)) (line (a .width) (a .height) (a .src .now) x) (a .rest))
+low c =
     let a = c .before .before .before .before .before .before .before .before .before .before in
-    centre-added (a .pre .0) (a .args .whole) (a .pre .1 .1 .0) (a .pre .1 .1 .1) (c .before .row-at .ensures) (toZ-pos w64 (omega arith)) (rest (c .before .before .before .before .before) .gives (c .before .before .before .before .add-rows .ensures))
+    low-added (a .pre .0) (a .args .whole) (a .pre .1 .1 .0) (a .pre .1 .1 .1) (c .before .row-at .ensures) (toZ-pos w64 (omega arith)) (rest (c .before .before .before .before .before) .gives (c .before .before .before .before .add-rows .ensures))
 
 add-row-requires : tie.Need-add-row-requires
-add-row-requires c κs = middle c .ready
+add-row-requires c κs = low c .ready
 
 next-requires : tie.Need-next-requires
 next-requires c κs = let a = c .before .before .before .before .before .before .before .before .before .before .before .before in (a .pre .1 .1 .1, period-fits (a .pre .0))
@@ -60,21 +61,21 @@ cast-add-row-2 c = let h = c .before .before .before .before .before .before .be
 row-at-requires-2 : tie.Need-row-at-requires-2
 row-at-requires-2 c κs = search needs
 
-whole : (c : tie.After-add-row-arg2) →
+high : (c : tie.After-add-row-arg2) →
     let a = c .before .before .before .before .before .before .before .before .before .before .before .before .before .before .before .before .args in
     Adds (a .width) (a .src .now) (toZ w64 (a .plan .edge)) (c .before .row-at2 .result) (c .before .before .before .before .before .add-row .last .1 .1 .1 .0) (λ x. passAt (stageOf (a .plan)) (line (a .width) (a .height) (a .src .now) x) (pos 0))
-whole c =
+high c =
     let a = c .before .before .before .before .before .before .before .before .before .before .before .before .before .before .before .before in
-    edge-added (a .pre .0) (a .args .whole) (a .pre .1 .1 .0) (a .pre .1 .1 .1) (c .before .before .before .next .ensures) (c .before .row-at2 .ensures) (toZ-pos w64 (omega arith)) (middle (c .before .before .before .before .before .before) .gives (c .before .before .before .before .before .add-row .ensures))
+    high-added (a .pre .0) (a .args .whole) (a .pre .1 .1 .0) (a .pre .1 .1 .1) (c .before .before .before .next .ensures) (c .before .row-at2 .ensures) (toZ-pos w64 (omega arith)) (low (c .before .before .before .before .before .before) .gives (c .before .before .before .before .before .add-row .ensures))
 
 add-row-requires-2 : tie.Need-add-row-requires-2
-add-row-requires-2 c κs = whole c .ready
+add-row-requires-2 c κs = high c .ready
 
 same-length : tie.Need-same-length
 same-length c = search needs
 
 returns : tie.Need-returns
-returns c = first-is (c .before .before .before .before .before .before .before .before .before .before .before .before .before .before .before .before .before .before .pre .0) (whole (c .before .before) .gives (c .before .add-row2 .ensures))
+returns c = first-is (c .before .before .before .before .before .before .before .before .before .before .before .before .before .before .before .before .before .before .pre .0) (high (c .before .before) .gives (c .before .add-row2 .ensures))
 
 pub first-row-spec : {M : Type 1} → statement M
 first-row-spec =

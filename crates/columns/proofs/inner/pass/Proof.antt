@@ -1,4 +1,4 @@
--- Before turn y, rows 0 to y are those of the pass; low and enters are where the rows before and behind the window stand.
+-- Before turn y, rows 0 to y are those of the pass; low and enters are where the rows before and after the window stand.
 use Prim.Native.Nat.{_+_, _*_, _-_, _≤_}
 use mathlib.Core.Path.{_≡_, refl}
 use native.Mathlib.Nat.{mul-le-mul-left}

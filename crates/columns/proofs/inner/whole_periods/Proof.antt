@@ -13,7 +13,8 @@ use Rattle.meaning.specs.Smoothing.{listOf}
 use Rattle.theory.specs.Lists.{listOf-const}
 use Rattle.plan.specs.Structs.{stageOf}
 use Rattle.columns.specs.Ready.{line, sides}
-use Rattle.columns.specs.First.{period-fits, AddsRows, periods-none, periods-added}
+use Rattle.columns.specs.Adding.{AddsRows}
+use Rattle.columns.specs.First.{period-fits, periods-none, periods-added}
 use Rattle.columns.proofs.inner.whole_periods.Statement.{statement}
 use Rattle.columns.proofs.inner.whole_periods.Tie as tie
 

@@ -1,7 +1,7 @@
 -- Below the period's end a place stands at itself; the end is the start.
 use native.Mathlib.Omega.{arith}
 use borrow.Author.Needs.{needs}
-use Rattle.theory.specs.Walk.{stands-here, stands-turn}
+use Rattle.theory.specs.Walk.{stands-here, stands-periods}
 use Rattle.extension.proofs.inner.next.Statement.{statement}
 use Rattle.extension.proofs.inner.next.Tie as tie
 
@@ -12,7 +12,7 @@ mul-if1 : tie.Need-mul-if1
 mul-if1 c = search needs
 
 returns : tie.Need-returns
-returns c = stands-turn (omega arith) (c .if1 .taken)
+returns c = stands-periods 1 (omega arith) (omega arith)
 
 returns-2 : tie.Need-returns-2
 returns-2 c = stands-here (omega arith)

@@ -1,4 +1,4 @@
--- Before cell n, w is the window around n, lo the cell before it, and behind and ahead are where the cells beside it stand; the first n cells are written.
+-- Before cell n, w is the window around n, lo the cell before it, and low_at and high_at are where the cells beside it stand; the first n cells are written.
 use Prim.Native.Nat.{_+_, _-_, _≤_}
 use mathlib.Core.Path.{_≡_, refl, _∙_}
 use native.Mathlib.Omega.{arith}
@@ -18,12 +18,12 @@ use Rattle.pass.proofs.ends.walk.Statement.{statement}
 use Rattle.pass.proofs.ends.walk.Tie as tie
 
 abbrev Inv-loop : tie.InvT-loop
-Inv-loop plan src start end low high sum dst₀ w₀ lo₀ behind₀ ahead₀ n₀ dst w lo behind ahead n =
-    (n ≤ end) × (length dst ≡ length src) × Reached plan src dst n (toZ w64 w) × Beside plan (length src) n behind ahead
+Inv-loop plan src start end low high sum dst₀ w₀ lo₀ low_at₀ high_at₀ n₀ dst w lo low_at high_at n =
+    (n ≤ end) × (length dst ≡ length src) × Reached plan src dst n (toZ w64 w) × Beside plan (length src) n low_at high_at
     × (toZ w64 lo ≡ ext fold src (pos n -ℤ pos (plan .radius + 1)))
 
 abbrev μ-loop : tie.MeasureT-loop
-μ-loop plan src start end low high sum dst₀ w₀ lo₀ behind₀ ahead₀ n₀ dst w lo behind ahead n = end - n
+μ-loop plan src start end low high sum dst₀ w₀ lo₀ low_at₀ high_at₀ n₀ dst w lo low_at high_at n = end - n
 
 read-requires : tie.Need-read-requires Inv-loop μ-loop
 read-requires c κs = search needs

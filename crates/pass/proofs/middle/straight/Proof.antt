@@ -12,7 +12,7 @@ use Rattle.meaning.specs.Extension.{at, fold, ext}
 use Rattle.plan.specs.Structs.{stageOf}
 use Rattle.pass.specs.Ready.{Reached}
 use Rattle.pass.specs.Turn.{Turn, cell-fits, slide-fits, pass-room}
-use Rattle.pass.specs.Course.{reached-next, ahead-read, behind-read}
+use Rattle.pass.specs.Course.{reached-next, inside-read, inside-back}
 use Rattle.pass.proofs.middle.straight.Statement.{statement}
 use Rattle.pass.proofs.middle.straight.Tie as tie
 
@@ -73,9 +73,9 @@ turn c =
       inner = refl;
       edge = refl;
       sum = c .before .before .before .before .loop .inv .3 .sum;
-      low = behind-read f (omega arith) (omega arith) (toZ-ofZ (sfits-of (c .before .before .lo .given)));
-      leaves = behind-read f (omega arith) (omega arith) (toZ-ofZ (sfits-of (c .before .first .given)));
-      enters = rw (← on) (ahead-read f (omega arith) (toZ-ofZ (sfits-of (c .hi .given))));
+      low = inside-back f (omega arith) (omega arith) (toZ-ofZ (sfits-of (c .before .before .lo .given)));
+      leaves = inside-back f (omega arith) (omega arith) (toZ-ofZ (sfits-of (c .before .first .given)));
+      enters = rw (← on) (inside-read f (omega arith) (toZ-ofZ (sfits-of (c .hi .given))));
     }
 
 weigh-requires : tie.Need-weigh-requires Inv-loop μ-loop
