@@ -1,2 +1,3 @@
 // One pass down all columns of a picture. Nothing here is a public call.
+mod first;
 pub mod inner;

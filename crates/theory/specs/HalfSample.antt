@@ -16,7 +16,7 @@ use Rattle.algebra.specs.Difference.{⊖-is, rep, diff, linear}
 use Rattle.algebra.specs.Size.{natAbs-sub}
 use Rattle.meaning.specs.Extension.{at, emod, reflect, fold, ext}
 use Rattle.meaning.specs.Smoothing.{apart}
-use Rattle.theory.specs.Remainder.{emod-is, emod-below, emod-small, emod-period, emod-shift, emod-mirror}
+use Rattle.theory.specs.Remainder.{emod-below, emod-periods, emod-small, emod-period, emod-shift, emod-mirror}
 use Rattle.theory.specs.Folding.{Follows, forward, backward, Folding, Nearness, Balanced}
 
 -- ---- reflection
@@ -41,7 +41,7 @@ reflect-mirror N m h = omega (arith, reflect-min N m, reflect-min N (2 * N - suc
 -- ---- the fold
 pub fold-at : (N i : ℕ) {t : ℕ} → t < 2 * N → fold N (pos (i * (2 * N) + t)) ≡ reflect N t
 unfolding fold
-fold-at N i h = ap (reflect N) (emod-is {q = pos i} (record { below = h; is = simp diff (omega linear) }))
+fold-at N i h = ap (reflect N) (emod-periods i h)
 
 pub fold-small : (N : ℕ) {m : ℕ} → m < 2 * N → fold N (pos m) ≡ reflect N m
 unfolding fold

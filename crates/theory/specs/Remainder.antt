@@ -1,7 +1,7 @@
 -- The remainder that is never negative, beside the floor.
--- Laws: emod-divided (quotient and remainder), emod-is (what is a remainder is this one), emod-below, emod-small; emod-period, emod-shift (z and its remainder go on alike), emod-mirror (of -1 - z).
+-- Laws: emod-divided (quotient and remainder), emod-is (what is a remainder is this one), emod-below, emod-periods (whole periods and a rest), emod-small; emod-period, emod-shift (z and its remainder go on alike), emod-mirror (of -1 - z).
 use mathlib.Core.Path.{_≡_, _∙_, ap}
-use Prim.Native.Nat.{ℕ, suc, _-_, _<_}
+use Prim.Native.Nat.{ℕ, suc, _+_, _*_, _-_, _<_}
 use native.Mathlib.Omega.{arith}
 use lib.IntN.{ℤ, pos, negsuc, _+ℤ_, _-ℤ_, _*ℤ_}
 use Rattle.algebra.specs.Difference.{rep, diff, linear}
@@ -25,8 +25,11 @@ emod-same z k {p} h e = ap (λ y. emod y p) e ∙ emod-is (divided-shift (emod-d
 pub emod-below : (z : ℤ) {p : ℕ} → 0 < p → emod z p < p
 emod-below z h = emod-divided z h .below
 
+pub emod-periods : (q : ℕ) {n p : ℕ} → n < p → emod (pos (q * p + n)) p ≡ n
+emod-periods q h = emod-is {q = pos q} (record { below = h; is = simp diff (omega linear) })
+
 pub emod-small : {n p : ℕ} → n < p → emod (pos n) p ≡ n
-emod-small h = emod-is {q = pos 0} (record { below = h; is = simp diff (omega linear) })
+emod-small {n} {p} h = let none : n ≡ 0 * p + n = omega arith in ap (λ m. emod (pos m) p) none ∙ emod-periods 0 h
 
 pub emod-period : (z : ℤ) {p : ℕ} → 0 < p → emod (z +ℤ pos p) p ≡ emod z p
 emod-period z h = emod-same z (pos 1) h (rw (rep z) (simp diff (omega linear)))

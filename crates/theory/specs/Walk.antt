@@ -8,9 +8,8 @@ use Prim.Native.Nat.{ℕ, _+_, _*_, _-_, _<_}
 use native.Mathlib.Omega.{arith}
 use lib.ListN.{length}
 use lib.IntN.{ℤ, pos, negsuc, _+ℤ_, _-ℤ_}
-use Rattle.algebra.specs.Difference.{diff, linear}
 use Rattle.meaning.specs.Extension.{at, emod, reflect, fold, ext}
-use Rattle.theory.specs.Remainder.{emod-is, emod-small, emod-shift, emod-mirror}
+use Rattle.theory.specs.Remainder.{emod-periods, emod-small, emod-shift, emod-mirror}
 
 pub record Stands (N : ℕ) (z : ℤ) (m : ℕ) : Type 0 where
   pub below : m < 2 * N
@@ -18,10 +17,10 @@ pub record Stands (N : ℕ) (z : ℤ) (m : ℕ) : Type 0 where
 
 -- ---- whole numbers from 0 on
 pub stands-periods : {N : ℕ} (q : ℕ) {i m : ℕ} → m < 2 * N → i ≡ q * (2 * N) + m → Stands N (pos i) m
-stands-periods q h e = record { below = h; is = emod-is {q = pos q} (record { below = h; is = rw e (simp diff (omega linear)) }) }
+stands-periods q h e = record { below = h; is = rw e (emod-periods q h) }
 
 pub stands-here : {N m : ℕ} → m < 2 * N → Stands N (pos m) m
-stands-here h = record { below = h; is = emod-small h }
+stands-here h = stands-periods 0 h (omega arith)
 
 -- ---- from one to another
 module _ {N : ℕ} {z : ℤ} {m : ℕ} (s : Stands N z m) where

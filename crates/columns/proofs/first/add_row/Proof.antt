@@ -13,8 +13,8 @@ use Rattle.meaning.specs.Smoothing.{listOf}
 use Rattle.theory.specs.Lists.{length-listOf, at-listOf}
 use Rattle.theory.specs.Fill.{Filled, filled-start, filled-next, filled-done}
 use Rattle.columns.specs.Ready.{added}
-use Rattle.columns.proofs.inner.add_row.Statement.{statement}
-use Rattle.columns.proofs.inner.add_row.Tie as tie
+use Rattle.columns.proofs.first.add_row.Statement.{statement}
+use Rattle.columns.proofs.first.add_row.Tie as tie
 
 abbrev Inv-loop : tie.InvT-loop
 Inv-loop weight src start row₀ x₀ row x = (x ≤ length row₀) × Filled (listOf (length row₀) (added (toZ w64 weight) src start row₀)) row₀ row x

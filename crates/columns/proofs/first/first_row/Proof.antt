@@ -11,8 +11,8 @@ use Rattle.plan.specs.Structs.{stageOf}
 use Rattle.columns.specs.Ready.{line, sides}
 use Rattle.columns.specs.Adding.{Adds, AddsRows}
 use Rattle.columns.specs.First.{period-fits, lower, rest-added, low-added, high-added, first-is}
-use Rattle.columns.proofs.inner.first_row.Statement.{statement}
-use Rattle.columns.proofs.inner.first_row.Tie as tie
+use Rattle.columns.proofs.first.first_row.Statement.{statement}
+use Rattle.columns.proofs.first.first_row.Tie as tie
 
 whole-periods-requires : tie.Need-whole-periods-requires
 whole-periods-requires c κs = search needs

@@ -15,8 +15,8 @@ use Rattle.plan.specs.Structs.{stageOf}
 use Rattle.columns.specs.Ready.{line, sides}
 use Rattle.columns.specs.Adding.{AddsRows}
 use Rattle.columns.specs.First.{period-fits, periods-none, periods-added}
-use Rattle.columns.proofs.inner.whole_periods.Statement.{statement}
-use Rattle.columns.proofs.inner.whole_periods.Tie as tie
+use Rattle.columns.proofs.first.whole_periods.Statement.{statement}
+use Rattle.columns.proofs.first.whole_periods.Tie as tie
 
 clear-requires : tie.Need-clear-requires
 clear-requires c κs = search needs

@@ -7,8 +7,8 @@ use lib.IntN.{pos}
 use borrow.Author.Needs.{needs}
 use Rattle.theory.specs.HalfSample.{half-sample}
 use Rattle.theory.specs.Picture.{row-inside}
-use Rattle.columns.proofs.inner.row_at.Statement.{statement}
-use Rattle.columns.proofs.inner.row_at.Tie as tie
+use Rattle.columns.proofs.first.row_at.Statement.{statement}
+use Rattle.columns.proofs.first.row_at.Tie as tie
 
 reflect-requires : tie.Need-reflect-requires
 reflect-requires c κs = (search needs, omega (arith, le-mul-of-pos-right (c .args .height) (c .pre .0)))

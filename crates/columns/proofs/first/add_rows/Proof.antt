@@ -11,8 +11,8 @@ use Rattle.meaning.specs.Smoothing.{listOf}
 use Rattle.theory.specs.Lists.{length-listOf}
 use Rattle.columns.specs.Ready.{rowsAdded}
 use Rattle.columns.specs.Adding.{Adds, rows-none, rows-next}
-use Rattle.columns.proofs.inner.add_rows.Statement.{statement}
-use Rattle.columns.proofs.inner.add_rows.Tie as tie
+use Rattle.columns.proofs.first.add_rows.Statement.{statement}
+use Rattle.columns.proofs.first.add_rows.Tie as tie
 
 abbrev Inv-loop : tie.InvT-loop
 Inv-loop weight width height count src row₀ k₀ row k = (k ≤ count) × (row ≡ listOf width (rowsAdded (toZ w64 weight) width height k src row₀))
