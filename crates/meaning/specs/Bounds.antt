@@ -15,8 +15,9 @@
 --   AllowedPictureOut hs vs M W H r n   of those of a picture
 --   AllowedSigma s K b        of the planner
 --   FirstAt N P i             i is the first of 0 .. N - 1 with the property P
+--   HowMany P N k             k of 0 .. N - 1 have the property P
 --   TooLarge φ ss L p d r n   result n is within reach of p, and has a size above L, or would get one where sample p changes by d
-use Prim.Native.Nat.{ℕ, _*_, _≤_, _<_}
+use Prim.Native.Nat.{ℕ, suc, _*_, _≤_, _<_}
 use mathlib.Core.Path.{_≡_}
 use mathlib.Core.Logic.{_⊎_}
 use mathlib.Core.Bool.{Bool}
@@ -122,11 +123,16 @@ pub record AllowedSigma (s K b : ℕ) : Type 0 where
   pub inner : (least ≤ b) × (b ≤ maxInner)
   pub sigma : (least ≤ s) × (s ≤ maxSigma)
 
--- ---- positions
+-- ---- positions and counts
 pub record FirstAt (N : ℕ) (P : ℕ → Type 0) (i : ℕ) : Type 0 where
   pub within : i < N
   pub here : P i
   pub before : (j : ℕ) → j < i → P j → ⊥
+
+pub data HowMany (P : ℕ → Type 0) : ℕ → ℕ → Type 0 where
+  none : HowMany P 0 0
+  one-more : {N k : ℕ} → P N → HowMany P N k → HowMany P (suc N) (suc k)
+  no-more : {N k : ℕ} → (P N → ⊥) → HowMany P N k → HowMany P (suc N) k
 
 abbrev pub TooLarge : IndexMap → List Stage → ℕ → ℕ → ℤ → List ℤ → ℕ → Type 0
 TooLarge φ ss L p d r n = (apart n p ≤ reach ss) × ((L < natAbs (at r n)) ⊎ (L < natAbs (at r n +ℤ d *ℤ weight φ ss (length r) (pos n) p)))

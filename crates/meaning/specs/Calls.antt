@@ -5,11 +5,10 @@
 --   smoothed          the outcome of either, `new` being the results where it is done; its rows are smoothRows
 --   editRoom ss N     cells of work that edit and point ask, 2N under every plan
 --   gained            the results after an edit
---   countWhere N t    at how many of 0 .. N - 1 the test t is true
 --   changed r new     how many results changed
 --   editSeries        of plan, bound, position, new value, samples, results, work: an Edited; its rows are editRows
 --   point             of plan, bound, position, samples, work: a Pointed; its rows are pointRows
-use Prim.Native.Nat.{ℕ, zero, suc, _+_, _*_}
+use Prim.Native.Nat.{ℕ, _*_}
 use mathlib.Core.Bool.{Bool, true, cond, _&&_, _||_}
 use mathlib.Core.List.{List, [], _∷_, _++_}
 use lib.Dec.{leb, eqb}
@@ -21,7 +20,7 @@ use Rattle.meaning.specs.Extension.{at, IndexMap}
 use Rattle.meaning.specs.Kernel.{Stage, divisor}
 use Rattle.meaning.specs.Smoothing.{listOf, near, result, results, weight}
 use Rattle.meaning.specs.Picture.{picture}
-use Rattle.meaning.specs.Refusals.{Answer, Row, _when_, firstOf, rowAt, differs, above, Shape, seriesOf, pictureOf, commonRows, ifDone, zeros}
+use Rattle.meaning.specs.Refusals.{Answer, Row, _when_, firstOf, countWhere, rowAt, differs, above, Shape, seriesOf, pictureOf, commonRows, ifDone, zeros}
 use Rattle.meaning.specs.Values.{ratio, plusZero}
 
 abbrev pub sampleRow : ℕ → List ℤ → (ℕ → Bool) → Row
@@ -69,10 +68,6 @@ editRows ss M p v f r new nw =
     ∷ sampleRow M f (λ i. eqb i p)
     ∷ rowAt 12 (length r) (λ n. near ss n p && (above (M * divisor ss) (at r n) || above (M * divisor ss) (at new n)))
     ∷ []
-
-unfoldable pub countWhere : ℕ → (ℕ → Bool) → ℕ
-countWhere zero test = 0
-countWhere (suc N) test = countWhere N test + cond (test N) 1 0
 
 -- "the number of results whose value changed"
 unfoldable pub changed : List ℤ → List ℤ → ℕ

@@ -16,10 +16,10 @@ use Rattle.meaning.specs.Extension.{emod, reflect, fold, ext}
 use Rattle.meaning.specs.Kernel.{Stage, plan, tap, passAt, kernel, width, reach, tapSum, divisor}
 use Rattle.meaning.specs.Smoothing.{listOf, convolved, result, results, weight, near}
 use Rattle.meaning.specs.Picture.{pixel, grid, picture}
-use Rattle.meaning.specs.Refusals.{Answer, firstOf, firstWhere, rowAt, some, planRows, sizeRows, commonRows, seriesOf, ifDone, zeros, ownRows, planDivisor, planReach}
-use Rattle.meaning.specs.Values.{nearest, ratio, takes, doubleRows, doublesIn, outputRows, converted, unbeaten, summary, wholeSeries, wholePicture, summarySeries}
+use Rattle.meaning.specs.Refusals.{Answer, firstOf, firstWhere, countWhere, rowAt, some, planRows, sizeRows, commonRows, seriesOf, ifDone, zeros, ownRows, planDivisor, planReach}
+use Rattle.meaning.specs.Values.{nearest, ratio, plusZero, takes, doubleRows, doublesIn, outputRows, converted, unbeaten, summary, wholeSeries, wholePicture, summarySeries}
 use Rattle.meaning.specs.Carry.{carry, carryCell, carried, carrySeries, carryPicture}
-use Rattle.meaning.specs.Calls.{smoothRows, smoothed, smoothSeries, smoothPicture, gained, editRows, countWhere, changed, editSeries}
+use Rattle.meaning.specs.Calls.{smoothRows, smoothed, smoothSeries, smoothPicture, gained, editRows, changed, editSeries, pointRows, point}
 use Rattle.meaning.specs.Planner.{largest, radiusFor, nearestDown, edgeFor, widened, stageFor, plannerRows, planFor}
 use Rattle.meaning.specs.Encoding.{bytes, number, text, digits, decimal}
 use Rattle.meaning.specs.Record.{sampleAt, stretch, samplesOf, begins, reading, readRecord}
@@ -42,8 +42,14 @@ data Example : Type 0 where
   carriesRaster : List Stage → List Stage → ℕ → ℕ → List ℤ → ℕ → List ℤ → Example
   -- plan, results; number, position
   uncarried : List Stage → List ℤ → ℕ → ℕ → Example
-  -- bound, doubles, samples; number, position, samples afterwards
-  taken : ℕ → List Float → List ℤ → ℕ → ℕ → List ℤ → Example
+  -- bound, doubles, samples; number, position, bad samples, samples afterwards
+  taken : ℕ → List Float → List ℤ → ℕ → ℕ → ℕ → List ℤ → Example
+  -- plan, samples; number, position, bad samples
+  unsmoothed : List Stage → List ℤ → ℕ → ℕ → ℕ → Example
+  -- plan, samples, position, new value; number, position, bad samples
+  unedited : List Stage → List ℤ → ℕ → ℤ → ℕ → ℕ → ℕ → Example
+  -- plan, samples, position; number, position, bad samples
+  unpointed : List Stage → List ℤ → ℕ → ℕ → ℕ → ℕ → Example
   -- plan, results; lowest and its index, highest and its index
   summed : List Stage → List ℤ → Float → ℕ → Float → ℕ → Example
   -- plans across and down, width, height, results; number, position
@@ -59,8 +65,11 @@ data Example : Type 0 where
   -- the job's bytes; what the program prints
   job : List ℕ → String → Example
 
+abbrev refusal : ℕ → ℕ → ℕ → Answer
+refusal n p k = record { number = n; position = p; bad = k }
+
 abbrev done : Answer
-done = record { number = 0; position = 0 }
+done = refusal 0 0 0
 
 -- The bound is 9, of refused outputs 1. Results to be written, work and cells are lent with the samples in them, where no samples are given with the results; an edit's results, and those put out of samples, are the smoothing.
 abbrev Holds : Example → Type 0
@@ -71,14 +80,17 @@ Holds (planner s K b r a) = planFor s K b ≡ record { answer = done; radius = r
 Holds (whole ss f c) = wholeSeries ss 9 (results fold ss f) f ≡ record { answer = done; cells = c }
 Holds (carries ss r k c) = carrySeries ss 9 r r ≡ record { answer = done; carry = k; cells = c }
 Holds (carriesRaster hs vs W H f k c) = carryPicture hs vs 9 W H (picture fold fold hs vs W H f) f ≡ record { answer = done; carry = k; cells = c }
-Holds (uncarried ss r n p) = carrySeries ss 1 r r ≡ record { answer = record { number = n; position = p }; carry = 0; cells = r }
-Holds (taken M xs f n p g) = doublesIn M xs f ≡ record { answer = record { number = n; position = p }; cells = g }
+Holds (uncarried ss r n p) = carrySeries ss 1 r r ≡ record { answer = refusal n p 0; carry = 0; cells = r }
+Holds (taken M xs f n p k g) = doublesIn M xs f ≡ record { answer = refusal n p k; cells = g }
+Holds (unsmoothed ss f n p k) = smoothSeries fold ss 9 f f f ≡ record { answer = refusal n p k; results = f; work = f }
+Holds (unedited ss f i v n p k) = editSeries fold ss 9 i v f f (f ++ f) ≡ record { answer = refusal n p k; count = 0; samples = f; results = f; work = f ++ f }
+Holds (unpointed ss f i n p k) = point fold ss 9 i f (f ++ f) ≡ record { answer = refusal n p k; value = plusZero; work = f ++ f }
 Holds (summed ss r l i h j) = summarySeries ss 9 r ≡ record { answer = done; lowest = l; highest = h; lowestAt = i; highestAt = j }
-Holds (refused hs vs W H r n p) = wholePicture hs vs 1 W H r r ≡ record { answer = record { number = n; position = p }; cells = r }
-Holds (unplanned s K b n) = planFor s K b ≡ record { answer = record { number = n; position = 0 }; radius = 0; edge = 0 }
+Holds (refused hs vs W H r n p) = wholePicture hs vs 1 W H r r ≡ record { answer = refusal n p 0; cells = r }
+Holds (unplanned s K b n) = planFor s K b ≡ record { answer = refusal n 0 0; radius = 0; edge = 0 }
 Holds (divided ss d) = planDivisor ss ≡ d
 Holds (reached ss n) = planReach ss ≡ n
-Holds (bounded ss M n) = firstOf (commonRows (seriesOf ss 1) M false) ≡ record { number = n; position = 0 }
+Holds (bounded ss M n) = firstOf (commonRows (seriesOf ss 1) M false) ≡ refusal n 0 0
 Holds (job s t) = program s ≡ text t
 
 abbrev plus : List ℕ → List ℤ
@@ -118,7 +130,7 @@ examples =
     "smooth 0 8 3\n0 32\n1 24\n2 8\n"
     -- document 02's
     ∷ planner 500 4 16 3 13
-    -- of no page: without them a picture of one plan, columns read for rows, a reach of r + 1 always, a fraction taken, the last index of equals, a carry that is dropped, one of a refused call, a planner's half going up or to even, and an edge weight of b would pass
+    -- of no page: without them a picture of one plan, columns read for rows, a reach of r + 1 always, a fraction taken, the last index of equals, a carry that is dropped, one of a refused call, a planner's half going up or to even, an edge weight of b, and bad samples counted beyond what is tested or with another number would pass
     ∷ raster (plan 0 3 1 1) (plan 1 1 0 1) 2 2 (plus (1 ∷ 0 ∷ 0 ∷ 0 ∷ [])) (plus (8 ∷ 2 ∷ 4 ∷ 1 ∷ []))
     ∷ raster (plan 1 2 1 1) (plan 0 3 1 1) 3 2 (plus (9 ∷ 0 ∷ 0 ∷ 0 ∷ 0 ∷ 1 ∷ [])) (plus (145 ∷ 111 ∷ 40 ∷ 40 ∷ 39 ∷ 25 ∷ []))
     ∷ reached (plan 1 1 0 2) 2
@@ -128,8 +140,8 @@ examples =
     ∷ divided (plan 1 2 2 1) 0
     ∷ divided (plan 1023 255 254 2) 272998935049
     ∷ divided (plan 1023 255 254 3) 0
-    ∷ taken 9 (fin true 0 (pos 0) ∷ fin true 9 (pos 0) ∷ []) (plus (7 ∷ 7 ∷ [])) 0 0 (minus (0 ∷ 9 ∷ []))
-    ∷ taken 9 (fin false 9 (pos 0) ∷ fin false 1 (negsuc 0) ∷ fin false 5 (pos 1) ∷ []) (plus (7 ∷ 7 ∷ 7 ∷ [])) 11 1 (plus (7 ∷ 7 ∷ 7 ∷ []))
+    ∷ taken 9 (fin true 0 (pos 0) ∷ fin true 9 (pos 0) ∷ []) (plus (7 ∷ 7 ∷ [])) 0 0 0 (minus (0 ∷ 9 ∷ []))
+    ∷ taken 9 (fin false 9 (pos 0) ∷ fin false 1 (negsuc 0) ∷ fin false 5 (pos 1) ∷ []) (plus (7 ∷ 7 ∷ 7 ∷ [])) 11 1 2 (plus (7 ∷ 7 ∷ 7 ∷ []))
     ∷ summed (plan 1 2 1 1) (pos 4 ∷ negsuc 3 ∷ pos 4 ∷ negsuc 3 ∷ []) (fin true 1 (negsuc 0)) 1 (fin false 1 (negsuc 0)) 0
     ∷ refused (plan 1 1 0 1) (plan 1 2 1 1) 3 1 (pos 24 ∷ negsuc 24 ∷ pos 25 ∷ []) 12 1
     ∷ refused (plan 1 1 0 1) (plan 1 2 1 1) 1 1 (pos 24 ∷ pos 24 ∷ []) 8 0
@@ -143,6 +155,11 @@ examples =
     ∷ planner 316 1 16 5 0
     ∷ unplanned 25601 3 256 3
     ∷ unplanned 25601 3 16 13
+    ∷ unsmoothed (plan 1 1 0 1) (pos 9 ∷ pos 10 ∷ negsuc 8 ∷ negsuc 9 ∷ []) 11 1 2
+    ∷ unsmoothed (plan 1 1 1 1) (pos 9 ∷ pos 10 ∷ negsuc 8 ∷ negsuc 9 ∷ []) 4 0 0
+    ∷ unedited (plan 1 1 0 1) (plus (10 ∷ 10 ∷ 10 ∷ [])) 1 (pos 9) 11 1 1
+    ∷ unedited (plan 1 1 0 1) (plus (10 ∷ 9 ∷ 10 ∷ [])) 1 (pos 10) 10 0 0
+    ∷ unpointed (plan 1 1 0 1) (plus (10 ∷ 0 ∷ 10 ∷ 0 ∷ 10 ∷ 10 ∷ [])) 3 11 2 2
     ∷ []
 
 infixr 5 _and_
@@ -152,9 +169,9 @@ data Every : List Example → Type 0 where
 
 examples-hold : Every examples
 unfolding examples sumWithin emod reflect fold ext tap passAt kernel width reach tapSum divisor listOf convolved result results weight near pixel grid picture
-    firstOf firstWhere rowAt some planRows sizeRows ifDone ownRows planDivisor planReach nearest ratio takes doubleRows doublesIn unbeaten summary ofInt div toSigned round size units odd span climb trailingZeros outputRows converted carry carryCell carried smoothRows smoothed gained editRows countWhere changed editSeries
+    firstOf firstWhere countWhere rowAt some planRows sizeRows ifDone ownRows planDivisor planReach nearest ratio takes doubleRows doublesIn unbeaten summary ofInt div toSigned round size units odd span climb trailingZeros outputRows converted carry carryCell carried smoothRows smoothed gained editRows changed editSeries pointRows point
     largest radiusFor nearestDown edgeFor widened stageFor plannerRows planFor bytes number text digits decimal sampleAt stretch samplesOf begins reading readRecord firstLine resultLines report program
 examples-hold =
     refl and refl and refl and refl and refl and refl and refl
     and refl and refl and refl and refl and refl
-    and refl and refl and refl and refl and refl and refl and refl and refl and refl and refl and refl and refl and refl and refl and refl and refl and refl and refl and refl and refl and refl and refl and refl and refl and refl and refl and refl and refl and refl and refl and refl and refl and none
+    and refl and refl and refl and refl and refl and refl and refl and refl and refl and refl and refl and refl and refl and refl and refl and refl and refl and refl and refl and refl and refl and refl and refl and refl and refl and refl and refl and refl and refl and refl and refl and refl and refl and refl and refl and refl and refl and none

@@ -71,11 +71,11 @@ pub record Job : Type 0 where
 
 -- of a record read to its end
 abbrev pub jobRead : ℕ → ℕ → ℕ → ℕ → ℕ → ℕ → ℕ → Job
-jobRead r b a K M start size = record { answer = record { number = 0; position = 0 }; radius = r; inner = b; edge = a; passes = K; bound = M; start = start; size = size }
+jobRead r b a K M start size = record { answer = record { number = 0; position = 0; bad = 0 }; radius = r; inner = b; edge = a; passes = K; bound = M; start = start; size = size }
 
 -- "at 14 the numbers are 0 and the stretch is empty"
 abbrev pub notWellFormed : Job
-notWellFormed = record { answer = record { number = 14; position = 0 }; radius = 0; inner = 0; edge = 0; passes = 0; bound = 0; start = 0; size = 0 }
+notWellFormed = record { answer = record { number = 14; position = 0; bad = 0 }; radius = 0; inner = 0; edge = 0; passes = 0; bound = 0; start = 0; size = 0 }
 
 -- "the stretch of the record that holds the samples"
 unfoldable pub stretch : ℕ → ℕ → List ℕ → List ℕ

@@ -1,10 +1,12 @@
 -- The table of numbers. A call's rows stand in rising order, and it answers the first that applies.
---   Answer             number and position
+--   Answer             number, position, and how many samples are bad
 --   Row                an answer, and whether it applies
 --   firstOf rows       the first answer that applies; 0, done, where none does
 --   Applies n rows     a row with number n applies
---   n when b           row n, with position 0
+--   n when b           row n, with position 0 and no bad sample
 --   firstWhere N t     the first of 0 .. N - 1 where the test t is true; N where there is none
+--   countWhere N t     at how many of 0 .. N - 1 it is true
+--   badAt n N t        how many samples are bad, by row n: those where t is true at 11, else 0
 --   rowAt n N t        row n, at the first of 0 .. N - 1 where t is true
 --   some t xs          t is true of one of xs
 --   outside, differs   not from low to high; not the length asked
@@ -18,7 +20,7 @@
 --   zeros w            zeros, as many as w has cells
 --   ownRows ss         the rows that apply to a plan under every bound
 --   planDivisor ss     its divisor, and planReach ss its reach, where none of those applies; else 0
-use Prim.Native.Nat.{ℕ, zero, suc, _*_}
+use Prim.Native.Nat.{ℕ, zero, suc, _+_, _*_}
 use mathlib.Core.Path.{_≡_}
 use mathlib.Core.Bool.{Bool, true, false, cond, not, _&&_, _||_}
 use mathlib.Core.List.{List, [], _∷_, _++_}
@@ -31,6 +33,7 @@ use Rattle.meaning.specs.Kernel.{Stage, reach, divisor}
 pub record Answer : Type 0 where
   pub number : ℕ
   pub position : ℕ
+  pub bad : ℕ
 
 pub record Row : Type 0 where
   pub answer : Answer
@@ -38,7 +41,7 @@ pub record Row : Type 0 where
 
 -- "The lowest number that applies to the call is given"
 unfoldable pub firstOf : List Row → Answer
-firstOf [] = record { number = 0; position = 0 }
+firstOf [] = record { number = 0; position = 0; bad = 0 }
 firstOf (row ∷ rows) = cond (row .applies) (row .answer) (firstOf rows)
 
 pub data Applies (n : ℕ) : List Row → Type 0 where
@@ -47,15 +50,23 @@ pub data Applies (n : ℕ) : List Row → Type 0 where
 
 infix 3 _when_
 abbrev pub _when_ : ℕ → Bool → Row
-n when b = record { answer = record { number = n; position = 0 }; applies = b }
+n when b = record { answer = record { number = n; position = 0; bad = 0 }; applies = b }
 
 unfoldable pub firstWhere : ℕ → (ℕ → Bool) → ℕ
 firstWhere zero test = 0
 firstWhere (suc N) test = cond (test 0) 0 (suc (firstWhere N (λ i. test (suc i))))
 
+unfoldable pub countWhere : ℕ → (ℕ → Bool) → ℕ
+countWhere zero test = 0
+countWhere (suc N) test = countWhere N test + cond (test N) 1 0
+
+-- "the number of bad samples among those it tests", and "0 with other answers"
+abbrev pub badAt : ℕ → ℕ → (ℕ → Bool) → ℕ
+badAt n N test = cond (eqb n 11) (countWhere N test) 0
+
 -- "Position is 0 except at 11 and 12, where it is the first offending index."
 unfoldable pub rowAt : ℕ → ℕ → (ℕ → Bool) → Row
-rowAt n N test = record { answer = record { number = n; position = firstWhere N test }; applies = ltb (firstWhere N test) N }
+rowAt n N test = record { answer = record { number = n; position = firstWhere N test; bad = badAt n N test }; applies = ltb (firstWhere N test) N }
 
 unfoldable pub some : {A : Type 0} → (A → Bool) → List A → Bool
 some test [] = false

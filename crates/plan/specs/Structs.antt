@@ -1,12 +1,12 @@
 -- The code's structs, as the definitions have them.
 --   stageOf p    one pass of the plan p
 --   stagesOf p   its stages: K equal ones
---   answerOf a   number and position
---   plain n      the answer n, with position 0
---   editAnswer e   number and position of what an edit answers
---   pointAnswer q, pointValue q   number and position, and value, of each case of what a point answers; a refused one has plus zero
+--   answerOf a   the answer of a call that tests no samples: none is bad
+--   plain n      the answer n, with position 0 and no bad sample
+--   checkedAnswer c, editAnswer e   the answers of a call that tests samples, and of an edit
+--   pointAnswer q, pointValue q   answer and value of each case of what a point answers; a refused one has plus zero
 --   pointOf a x    what a point answers: the value x where a is done, else a
--- Laws: pointOf-done, pointOf-refused (which case it is); pointAnswer-of (where 0 is done, its number and position are those of a).
+-- Laws: pointOf-done, pointOf-refused (which case it is); pointAnswer-of (where 0 is done, its answer is a).
 use Prim.Native.Nat.{ℕ}
 use mathlib.Core.Path.{_≡_, sym, ap, _∙_}
 use mathlib.Core.Bool.{cond}
@@ -20,6 +20,7 @@ use Rattle.meaning.specs.Refusals as meant
 use Rattle.plan.specs.declared.Plan.{Plan}
 use Rattle.meaning.specs.Values.{plusZero}
 use Rattle.plan.specs.declared.Answer.{Answer}
+use Rattle.plan.specs.declared.Checked.{Checked}
 use Rattle.plan.specs.declared.Edited.{Edited}
 use Rattle.plan.specs.declared.Point.{Point}
 use Rattle.plan.specs.declared.Point.the-variants.{Value, Refused}
@@ -31,29 +32,32 @@ abbrev pub stagesOf : Plan → List Stage
 stagesOf p = plan (p .radius) (p .inner) (p .edge) (p .passes)
 
 abbrev pub answerOf : Answer → meant.Answer
-answerOf a = record { number = a .number; position = a .position }
+answerOf a = record { number = a .number; position = a .position; bad = 0 }
 
 abbrev pub plain : ℕ → meant.Answer
-plain n = record { number = n; position = 0 }
+plain n = record { number = n; position = 0; bad = 0 }
+
+abbrev pub checkedAnswer : Checked → meant.Answer
+checkedAnswer c = record { number = c .number; position = c .position; bad = c .bad }
 
 abbrev pub editAnswer : Edited → meant.Answer
-editAnswer e = record { number = e .number; position = e .position }
+editAnswer e = record { number = e .number; position = e .position; bad = e .bad }
 
 abbrev pub pointAnswer : Point → meant.Answer
 pointAnswer (Value x) = plain 0
-pointAnswer (Refused n i) = record { number = n; position = i }
+pointAnswer (Refused n i k) = record { number = n; position = i; bad = k }
 
 abbrev pub pointValue : Point → Float
 pointValue (Value x) = x
-pointValue (Refused n i) = plusZero
+pointValue (Refused n i k) = plusZero
 
 abbrev pub pointOf : meant.Answer → Float → Point
-pointOf a x = cond (eqb (a .number) 0) (Value x) (Refused (a .number) (a .position))
+pointOf a x = cond (eqb (a .number) 0) (Value x) (Refused (a .number) (a .position) (a .bad))
 
 pub pointOf-done : (a : meant.Answer) (x : Float) → a .number ≡ 0 → pointOf a x ≡ Value x
 pointOf-done a x e = rw (eq-eqb (a .number) 0 e)
 
-pub pointOf-refused : (a : meant.Answer) (x : Float) → (a .number ≡ 0 → ⊥) → pointOf a x ≡ Refused (a .number) (a .position)
+pub pointOf-refused : (a : meant.Answer) (x : Float) → (a .number ≡ 0 → ⊥) → pointOf a x ≡ Refused (a .number) (a .position) (a .bad)
 pointOf-refused a x e = rw (ne-eqb (a .number) 0 e)
 
 pub pointAnswer-of : (a : meant.Answer) (x : Float) → (a .number ≡ 0 → a ≡ plain 0) → pointAnswer (pointOf a x) ≡ a

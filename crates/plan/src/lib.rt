@@ -19,17 +19,25 @@ pub struct Answer {
     pub position: usize,
 }
 
-// What an edit answers. The count is of results changed, 0 when refused.
+// What a call answers that tests samples. Bad is how many of those it tests are not acceptable: 0 but at 11.
+pub struct Checked {
+    pub number: u64,
+    pub position: usize,
+    pub bad: usize,
+}
+
+// What an edit answers. The count is of results changed, 0 when refused; bad is 1 at 11, else 0.
 pub struct Edited {
     pub number: u64,
     pub position: usize,
     pub count: usize,
+    pub bad: usize,
 }
 
-// What a point answers: the smoothed value, or a refusal with its number and index.
+// What a point answers: the smoothed value, or a refusal with its number, index, and how many samples within reach are bad.
 pub enum Point {
     Value(f64),
-    Refused(u64, usize),
+    Refused(u64, usize, usize),
 }
 
 impl Plan {

@@ -9,10 +9,10 @@ ghost use Rattle.meaning.specs.Kernel.{Stage};
 ghost use Rattle.meaning.specs.Refusals as R;
 ghost use Rattle.meaning.specs.Calls as C;
 ghost use Rattle.theory.specs.Placed.{placedRows};
-ghost use Rattle.plan.specs.Structs.{stagesOf, answerOf, plain};
+ghost use Rattle.plan.specs.Structs.{stagesOf, checkedAnswer, plain};
 ghost use Rattle.refusals.specs.Sides.{pictureCells};
 ghost use Rattle.refusals.specs.Span.{low, high};
-use plan::Answer;
+use plan::Checked;
 use plan::Plan;
 use plan::inner::first_row;
 use plan::inner::outside;
@@ -135,25 +135,28 @@ pub fn size(x: i64) -> u64
     x as u64
 }
 
-// Row 11, of the samples from start up to end.
-pub fn sample_refusal(bound: u64, samples: &[i32], start: usize, end: usize) -> Answer
+// Row 11, of the samples from start up to end, all of which are tested. From the last down, so that the place kept is the first.
+pub fn sample_refusal(bound: u64, samples: &[i32], start: usize, end: usize) -> Checked
     requires { ⌜ end ≤ length (now samples) ⌝ }
-    ensures { λ r. ⌜ answerOf r ≡ R.firstOf (C.sampleRow bound (now (samples .entry)) (R.within start end) ∷ []) ⌝ }
+    ensures { λ r. ⌜ checkedAnswer r ≡ R.firstOf (C.sampleRow bound (now (samples .entry)) (R.within start end) ∷ []) ⌝ }
 {
-    let mut i = start;
-    while i < end {
-        if bound < size(samples[i] as i64) {
-            return Answer {
-                number: 11,
-                position: i,
-            };
-        }
-        i += 1;
-    }
-    Answer {
+    let mut answer = Checked {
         number: 0,
         position: 0,
+        bad: 0,
+    };
+    let mut i = end;
+    while start < i {
+        i -= 1;
+        if bound < size(samples[i] as i64) {
+            answer = Checked {
+                number: 11,
+                position: i,
+                bad: answer.bad + 1,
+            };
+        }
     }
+    answer
 }
 
 // The cells of work that an edit and a point ask, under every plan.

@@ -1,12 +1,12 @@
 -- The rows of doubles in: which positions they answer; doubles are taken in exactly where their bounds hold.
 --   lentRows M N n   rows 5, 7 and 8, of N doubles and n samples
 -- Laws: size-lent (rows 5 to 8 of a product of 0 are these), lent-numbered, lent-bound (where none of them applies, the bound is allowed);
--- double-rising, double-numbered; doubles-allowed, allowed-doubles; double-position (at 11), double-no-position (else).
+-- double-rising, double-numbered; doubles-allowed, allowed-doubles; double-position (at 11), double-no-position (else), double-bad (how many doubles are bad).
 use mathlib.Core.Path.{_≡_, refl, sym, ap, _∙_}
-use mathlib.Core.Bool.{Bool, not, true≢false}
+use mathlib.Core.Bool.{Bool, true, not, true≢false}
 use mathlib.Core.List.{List, [], _∷_}
 use mathlib.Mathlib.Data.Bool.Basic.{eq-false-of-not-eq-true}
-use Prim.Native.Nat.{ℕ, _≤_}
+use Prim.Native.Nat.{ℕ, _≤_, _<_}
 use native.Mathlib.Omega.{arith}
 use lib.ListN.{length, getD}
 use lib.Ieee.{Float, nan}
@@ -16,6 +16,7 @@ use Rattle.meaning.specs.Refusals.{Answer, Row, _when_, firstOf, rowAt, outside
 use Rattle.meaning.specs.Values.{takes, doubleRows}
 use Rattle.meaning.specs.Bounds.{WholeDouble, AllowedDoubles, FirstAt}
 use Rattle.theory.specs.Refusals.{done, Numbered, Rising, done-off, off-done, off-append, append-off}
+use Rattle.theory.specs.BadSamples.{Counted, none-behind, bad-counted}
 use Rattle.theory.specs.Places.{rowAt-off, rowAt-none, place-here, place-other, first-map}
 use Rattle.theory.specs.Tests.{outside-no, no-outside, differs-no, no-differs}
 use Rattle.theory.specs.Doubles.{takes-whole, whole-takes}
@@ -70,11 +71,22 @@ module _ (M : ℕ) (xs : List Float) (n : ℕ) where
       (no-outside (ok .bound .0) (ok .bound .1), (no-outside (ok .count .0) (ok .count .1), (no-differs (ok .samples), tt)))
       (rowAt-off 11 (length xs) (λ i l. ap not (whole-takes _ (ok .doubles i l))), tt))
 
+  -- the test by what it tests
+  not-whole : (i : ℕ) → i < length xs → untaken i ≡ true → WholeDouble M (getD xs i nan) → ⊥
+  not-whole i l k w = true≢false (sym (whole-takes _ w) ∙ not-true _ k)
+
+  whole-not : (i : ℕ) → i < length xs → (WholeDouble M (getD xs i nan) → ⊥) → untaken i ≡ true
+  whole-not i l k = ap not (eq-false-of-not-eq-true (λ t. k (takes-whole M _ t)))
+
   module _ {x : Answer} (e : x ≡ firstOf rows) where
     pub double-position : x .number ≡ 11 → FirstAt (length xs) (λ i. WholeDouble M (getD xs i nan) → ⊥) (x .position)
     unfolding doubleRows
-    double-position h = first-map (λ i l k w. true≢false (sym (whole-takes _ w) ∙ not-true _ k)) (λ i l k. ap not (eq-false-of-not-eq-true (λ t. k (takes-whole M _ t)))) (place-here 11 (length xs) lent tt untaken (omega arith) e h)
+    double-position h = first-map not-whole whole-not (place-here 11 (length xs) lent tt untaken (omega arith) e h .first)
 
     pub double-no-position : (x .number ≡ 11 → ⊥) → x .position ≡ 0
     unfolding doubleRows
-    double-no-position h = place-other 11 (length xs) lent tt untaken (omega arith) e h
+    double-no-position h = place-other 11 (length xs) lent tt untaken (omega arith) e h .1
+
+    pub double-bad : Counted (λ i. WholeDouble M (getD xs i nan) → ⊥) (length xs) rows x
+    unfolding doubleRows
+    double-bad = bad-counted lent [] tt (length xs) untaken not-whole whole-not e none-behind double-rising double-numbered

@@ -1,6 +1,6 @@
 -- The rows of an edit: it is done exactly where its bounds hold, which positions it answers, and that a true smoothing passes row 12.
 --   front ss M p v f nr nw   rows 1 to 10, of nr results and nw cells of work;  Begun  what they leave
--- Laws: edit-rising, edit-numbered; front-begun, old-passes (row 11); edit-allowed, allowed-edit; edit-old (the position at 11), edit-place (at 12), edit-no-position (else); edit-never-12 (of a true smoothing).
+-- Laws: edit-rising, edit-numbered; front-begun, old-passes (row 11); edit-allowed, allowed-edit; edit-old (the position at 11), edit-place (at 12), edit-no-position (else); edit-bad (how many samples are bad), edit-one (at 11); edit-never-12 (of a true smoothing).
 use mathlib.Core.Path.{_≡_, refl, sym, _∙_, ap}
 use mathlib.Core.Logic.{⊎-elim, ⊎-map}
 use mathlib.Core.Bool.{Bool, true, false, _&&_, _||_, true≢false}
@@ -21,7 +21,9 @@ use Rattle.theory.specs.Folding.{Nearness}
 use Rattle.theory.specs.Lists.{Sized}
 use Rattle.theory.specs.Local.{near-yes, near-true}
 use Rattle.theory.specs.Refusals.{done, Off, Numbered, Rising, Unplaced, done-off, off-done, first-parts, off-append, append-off}
-use Rattle.theory.specs.Places.{rowAt-off, rowAt-none, rowAt-answer, first-map}
+use Rattle.theory.specs.Counts.{count-at}
+use Rattle.theory.specs.Places.{OfRow, rowAt-off, rowAt-none, rowAt-answer, first-map}
+use Rattle.theory.specs.BadSamples.{Counted, none-behind, bad-counted}
 use Rattle.theory.specs.Tests.{or-no, no-or, or-yes, yes-or, and-yes, yes-and, and-no, no-and, and-when, differs-no, no-differs}
 use Rattle.theory.specs.Edits.{resultRow, gained-near, fresh-passes}
 use Rattle.theory.specs.Placed.{placedRows, off-placed, placed-off}
@@ -141,7 +143,7 @@ module _ (φ : IndexMap) (ss : List Stage) (M p : ℕ) (v : ℤ) (f r : List ℤ
   Offends = TooLarge φ ss (M * divisor ss) p (v -ℤ at f p) r
 
   record Placed (x : Answer) : Type 0 where
-    sample : x .number ≡ 11 → (x .position ≡ p) × (M < natAbs (at f p))
+    sample : x .number ≡ 11 → (x .position ≡ p) × (M < natAbs (at f p)) × (x .bad ≡ 1)
     result : x .number ≡ 12 → Begun ss M p v f (length r) nw × FirstAt (length r) Offends (x .position)
     other : (x .number ≡ 11 → ⊥) → (x .number ≡ 12 → ⊥) → x .position ≡ 0
 
@@ -149,11 +151,12 @@ module _ (φ : IndexMap) (ss : List Stage) (M p : ℕ) (v : ℤ) (f r : List ℤ
     nowhere : x .number < 11 → x .position ≡ 0 → Placed x
     nowhere l z = record { sample = λ n. omega arith; result = λ n. let no : ⊥ = omega arith in absurd no; other = λ h k. z }
 
-    at-sample : x .number ≡ 11 → FirstAt (length f) (λ i. (eqb i p && above M (at f i)) ≡ true) (x .position) → Placed x
-    at-sample m h =
-        let (t, k) = and-yes (eqb (x .position) p) (above M (at f (x .position))) (h .here) in
+    at-sample : OfRow 11 (length f) (λ i. eqb i p && above M (at f i)) x → Placed x
+    at-sample h =
+        let (t, k) = and-yes (eqb (x .position) p) (above M (at f (x .position))) (h .first .here) in
         let i = eqb-true (x .position) p t in
-        record { sample = λ n. (i, rw i at (ltb-true M (natAbs (at f (x .position))) k)); result = λ n. let no : ⊥ = omega arith in absurd no; other = λ h k. absurd (h m) }
+        let m = h .number in
+        record { sample = λ n. (i, rw i at (ltb-true M (natAbs (at f (x .position))) k), h .bad ∙ count-at (length f) p (λ i. above M (at f i)) (rw i at (h .first .within)) (rw i at k)); result = λ n. let no : ⊥ = omega arith in absurd no; other = λ h k. absurd (h m) }
 
     at-result : Begun ss M p v f (length r) nw → x .number ≡ 12 → FirstAt (length r) Offends (x .position) → Placed x
     at-result b m h = record { sample = λ n. omega arith; result = λ n. (b, h); other = λ h k. absurd (k m) }
@@ -161,25 +164,36 @@ module _ (φ : IndexMap) (ss : List Stage) (M p : ℕ) (v : ℤ) (f r : List ℤ
     from-last : Begun ss M p v f (length r) nw → x ≡ firstOf (resultRow ss (M * divisor ss) p r new ∷ []) → Placed x
     unfolding firstOf
     from-last b e = ⊎-elim
-        (λ q. at-result b (q .0) (first-map (to-large φ ss (M * divisor ss) p (v -ℤ at f p) r) (of-large φ ss (M * divisor ss) p (v -ℤ at f p) r) (q .1)))
+        (λ q. at-result b (q .number) (first-map (to-large φ ss (M * divisor ss) p (v -ℤ at f p) r) (of-large φ ss (M * divisor ss) p (v -ℤ at f p) r) (q .first)))
         (λ q. nowhere (rw (q .1) (omega arith)) (rw (q .1) refl))
         (rowAt-answer 12 (length r) _ [] e)
 
     placed : x ≡ firstOf rows → Placed x
     placed e = ⊎-elim
         (λ q. nowhere (q .0) (q .1))
-        (λ q. ⊎-elim (λ s. at-sample (s .0) (s .1)) (λ s. from-last (front-begun ss M p v f (length r) nw (q .0)) (s .1)) (rowAt-answer 11 (length f) _ _ (q .1)))
+        (λ q. ⊎-elim at-sample (λ s. from-last (front-begun ss M p v f (length r) nw (q .0)) (s .1)) (rowAt-answer 11 (length f) _ _ (q .1)))
         (first-parts 11 (front ss M p v f (length r) nw) rest (front-unplaced ss M p v f (length r) nw) (e ∙ ap firstOf parts))
 
   module _ {x : Answer} (e : x ≡ firstOf rows) where
     pub edit-old : x .number ≡ 11 → (x .position ≡ p) × (M < natAbs (at f p))
-    edit-old = placed e .sample
+    edit-old n = let (i, l, b) = placed e .sample n in (i, l)
+
+    pub edit-one : x .number ≡ 11 → x .bad ≡ 1
+    edit-one n = placed e .sample n .2
 
     pub edit-place : x .number ≡ 12 → FirstAt (length r) Offends (x .position)
     edit-place n = placed e .result n .1
 
     pub edit-no-position : (x .number ≡ 11 → ⊥) → (x .number ≡ 12 → ⊥) → x .position ≡ 0
     edit-no-position = placed e .other
+
+    pub edit-bad : Counted (λ i. (i ≡ p) × (M < natAbs (at f i))) (length f) rows x
+    edit-bad = rw parts (bad-counted (front ss M p v f (length r) nw) _ (front-unplaced ss M p v f (length r) nw) (length f) _
+        (λ i l k. let (a, b) = and-yes (eqb i p) (above M (at f i)) k in (eqb-true i p a, ltb-true _ _ b))
+        (λ i l k. yes-and (eq-eqb i p (k .0)) (lt-ltb _ _ (k .1)))
+        (e ∙ ap firstOf parts)
+        (λ k. ⊎-elim (λ q. (λ n. omega (arith, q .number), q .bad)) (λ q. none-behind (q .1)) (rowAt-answer 12 (length r) _ [] k))
+        (rw parts at (edit-rising ss M p v f r new nw)) (rw parts at (edit-numbered ss M p v f r new nw)))
 
   -- ---- a true smoothing
   pub edit-never-12 : Nearness φ → r ≡ results φ ss f → Sized M f → firstOf rows .number ≡ 12 → ⊥

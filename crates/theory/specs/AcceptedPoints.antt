@@ -1,7 +1,7 @@
 -- The rows of a point: it is done exactly where its bounds hold, and which positions it answers. Its answer and value depend only on samples within reach.
--- Laws: point-rising, point-numbered; point-allowed, allowed-point; point-position (at 11), point-no-position (else); point-local.
+-- Laws: point-rising, point-numbered; point-allowed, allowed-point; point-position (at 11), point-no-position (else), point-bad (how many samples within reach are bad); point-local.
 use mathlib.Core.Path.{_≡_, refl, _∙_, ap}
-use mathlib.Core.Bool.{_&&_}
+use mathlib.Core.Bool.{true, _&&_}
 use mathlib.Core.List.{List, [], _∷_, _++_}
 use Prim.Native.Nat.{ℕ, _≤_, _<_}
 use native.Mathlib.Omega.{arith}
@@ -18,6 +18,7 @@ use Rattle.meaning.specs.Bounds.{AllowedPoint, FirstAt}
 use Rattle.theory.specs.Folding.{Nearness}
 use Rattle.theory.specs.Local.{near-yes, near-true, result-local}
 use Rattle.theory.specs.Refusals.{done, Numbered, Rising, Unplaced, done-off, off-done, off-append, append-off, ifDone-ext}
+use Rattle.theory.specs.BadSamples.{Counted, none-behind, bad-counted}
 use Rattle.theory.specs.Places.{rowAt-ext, rowAt-off, rowAt-none, place-here, place-other, first-map}
 use Rattle.theory.specs.Tests.{and-yes, yes-and, and-no, no-and, and-when, differs-no, no-differs}
 use Rattle.theory.specs.Placed.{placedRows, off-placed, placed-off}
@@ -61,15 +62,25 @@ module _ (ss : List Stage) (M n : ℕ) (f : List ℤ) (nw : ℕ) where
       let samples = rowAt-off 11 (length f) (λ i l. no-and (near ss i n) _ (λ t. le-ltb _ _ (ok .samples i l (near-true ss i n t)))) in
       rw parts (off-done _ (off-append front _ (placed-off ss M (length f) _ n (ok .common) (no-differs (ok .work)) (ok .position)) (samples, tt)))
 
+  -- the test by what it tests
+  abbrev Bad : ℕ → Type 0
+  Bad i = (apart i n ≤ reach ss) × (M < natAbs (at f i))
+
+  to-bad : (i : ℕ) → i < length f → (near ss i n && above M (at f i)) ≡ true → Bad i
+  to-bad i l k = let (a, b) = and-yes (near ss i n) (above M (at f i)) k in (near-true ss i n a, ltb-true _ _ b)
+
+  of-bad : (i : ℕ) → i < length f → Bad i → (near ss i n && above M (at f i)) ≡ true
+  of-bad i l k = yes-and (near-yes ss i n (k .0)) (lt-ltb _ _ (k .1))
+
   module _ {x : Answer} (e : x ≡ firstOf rows) where
     pub point-position : x .number ≡ 11 → FirstAt (length f) (λ i. (apart i n ≤ reach ss) × (M < natAbs (at f i))) (x .position)
-    point-position h = first-map
-        (λ i l k. let (a, b) = and-yes (near ss i n) (above M (at f i)) k in (near-true ss i n a, ltb-true _ _ b))
-        (λ i l k. yes-and (near-yes ss i n (k .0)) (lt-ltb _ _ (k .1)))
-        (place-here 11 (length f) front front-unplaced _ (omega arith) (e ∙ ap firstOf parts) h)
+    point-position h = first-map to-bad of-bad (place-here 11 (length f) front front-unplaced _ (omega arith) (e ∙ ap firstOf parts) h .first)
 
     pub point-no-position : (x .number ≡ 11 → ⊥) → x .position ≡ 0
-    point-no-position h = place-other 11 (length f) front front-unplaced _ (omega arith) (e ∙ ap firstOf parts) h
+    point-no-position h = place-other 11 (length f) front front-unplaced _ (omega arith) (e ∙ ap firstOf parts) h .1
+
+    pub point-bad : Counted (λ i. (apart i n ≤ reach ss) × (M < natAbs (at f i))) (length f) rows x
+    point-bad = rw parts (bad-counted front [] front-unplaced (length f) _ to-bad of-bad (e ∙ ap firstOf parts) none-behind (rw parts at point-rising) (rw parts at point-numbered))
 
 -- ---- samples within reach
 module _ (ss : List Stage) (M n : ℕ) (f g : List ℤ) (e : length f ≡ length g) (k : (i : ℕ) → i < length f → apart i n ≤ reach ss → at f i ≡ at g i) where

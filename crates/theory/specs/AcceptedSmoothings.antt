@@ -1,20 +1,21 @@
 -- The rows of smoothing, of any shape: which positions they answer; a series and a picture are smoothed exactly where their bounds hold.
--- Laws: smooth-rising, smooth-numbered; smooth-position (at 11), smooth-no-position (else);
+-- Laws: smooth-rising, smooth-numbered; smooth-position (at 11), smooth-no-position (else), smooth-bad (how many samples are bad);
 -- series-allowed, allowed-series; picture-allowed, allowed-picture.
 use mathlib.Core.Path.{_≡_, refl}
 use mathlib.Core.Bool.{Bool, false, _||_}
-use mathlib.Core.List.{List}
+use mathlib.Core.List.{List, []}
 use Prim.Native.Nat.{ℕ, _≤_, _<_}
 use native.Mathlib.Omega.{arith}
 use lib.ListN.{length}
 use lib.IntN.{ℤ, natAbs}
-use borrow.Author.Tests.{ltb-false, le-ltb}
+use borrow.Author.Tests.{ltb-true, ltb-false, lt-ltb, le-ltb}
 use Rattle.meaning.specs.Extension.{at}
 use Rattle.meaning.specs.Kernel.{Stage}
 use Rattle.meaning.specs.Refusals.{Answer, Row, firstOf, rowAt, differs, above, Shape, seriesOf, pictureOf, planRows, sizeRows, commonRows}
 use Rattle.meaning.specs.Calls.{smoothRows}
 use Rattle.meaning.specs.Bounds.{AllowedSeries, AllowedPicture, FirstAt}
 use Rattle.theory.specs.Refusals.{done, Off, Numbered, Rising, Unplaced, done-off, off-done}
+use Rattle.theory.specs.BadSamples.{Counted, none-behind, bad-counted}
 use Rattle.theory.specs.ShapeRows.{shape-off, off-shape, shape-position, shape-no-position}
 use Rattle.theory.specs.Tests.{or-no, no-or, differs-no, no-differs}
 use Rattle.theory.specs.Accepted.{length-allowed, allowed-length, sides-allowed, allowed-sides}
@@ -72,6 +73,10 @@ module _ (s : Shape) (M : ℕ) (f : List ℤ) (nr nw : ℕ) where
     pub smooth-no-position : (x .number ≡ 11 → ⊥) → x .position ≡ 0
     unfolding smoothRows
     smooth-no-position h = shape-no-position s M wrong 11 common-unplaced (omega arith) M f e h
+
+    pub smooth-bad : Counted (λ i. M < natAbs (at f i)) (length f) rows x
+    unfolding smoothRows
+    smooth-bad = bad-counted common [] common-unplaced (length f) large (λ i l k. ltb-true _ _ k) (λ i l k. lt-ltb _ _ k) e none-behind smooth-rising smooth-numbered
 
 -- ---- a series
 module _ (ss : List Stage) (M : ℕ) (f : List ℤ) (nr nw : ℕ) where

@@ -1,20 +1,23 @@
 -- At how many places a test is true, and how many results changed.
--- Laws: count-ext, count-within; changed-none, changed-where.
-use mathlib.Core.Path.{_≡_, refl}
+-- Laws: count-ext, count-none, count-more (one place more), count-at (at one place alone), count-within; how-many (so many have the property tested), how-many-none, how-many-some; changed-none, changed-where.
+use mathlib.Core.Path.{_≡_, refl, sym, subst, _∙_}
 use mathlib.Core.Logic.{_≢_}
-use mathlib.Core.Bool.{Bool, true, false, cond, _||_}
+use mathlib.Core.Bool.{Bool, true, false, cond, _&&_, _||_, true≢false}
 use mathlib.Core.List.{List}
 use Prim.Native.Nat.{ℕ, zero, suc, _+_, _-_, _≤_, _<_, min}
-use native.Mathlib.Decide.{decLe, decLt}
+use native.Mathlib.Decide.{ℕ-discrete, decLe, decLt}
+use native.Mathlib.Numerals.{unary-clauses}
 use native.Mathlib.Omega.{arith}
 use lib.ListN.{length}
 use lib.IntN.{ℤ}
 use lib.Signed.{ltZ, ≤ℤ-refl}
-use borrow.Author.Tests.{le-leb, lt-leb, lt-ltb, le-ltb}
+use lib.Dec.{eqb}
+use borrow.Author.Tests.{le-leb, lt-leb, lt-ltb, le-ltb, eq-eqb, ne-eqb}
 use Rattle.algebra.specs.Order.{≤ℤ-antisym}
 use Rattle.meaning.specs.Extension.{at}
-use Rattle.meaning.specs.Refusals.{within}
-use Rattle.meaning.specs.Calls.{countWhere, changed}
+use Rattle.meaning.specs.Refusals.{countWhere, within}
+use Rattle.meaning.specs.Calls.{changed}
+use Rattle.meaning.specs.Bounds.{HowMany, none, one-more, no-more}
 use Rattle.theory.specs.Tests.{ltZ-false, le-ltZ}
 
 pub count-ext : (N : ℕ) {t u : ℕ → Bool} → ((i : ℕ) → i < N → t i ≡ u i) → countWhere N t ≡ countWhere N u
@@ -22,10 +25,23 @@ unfolding countWhere
 count-ext zero e = refl
 count-ext (suc N) {t} {u} e = rw (e N (omega arith), count-ext N {t = t} {u = u} (λ i l. e i (omega arith)))
 
-count-none : (N : ℕ) {t : ℕ → Bool} → ((i : ℕ) → i < N → t i ≡ false) → countWhere N t ≡ 0
+pub count-none : (N : ℕ) {t : ℕ → Bool} → ((i : ℕ) → i < N → t i ≡ false) → countWhere N t ≡ 0
 unfolding countWhere
 count-none zero e = refl
 count-none (suc N) {t} e = rw (e N (omega arith), count-none N {t = t} (λ i l. e i (omega arith)))
+
+-- t is true where u is, and at i
+pub count-more : (N i : ℕ) {t u : ℕ → Bool} → i < N → t i ≡ true → u i ≡ false → ((j : ℕ) → j < N → j ≢ i → t j ≡ u j) → countWhere N t ≡ countWhere N u + 1
+unfolding countWhere
+count-more zero i l h k e = absurd (omega arith)
+count-more (suc N) i {t} {u} l h k e = go (ℕ-discrete N i) (λ l. count-more N i {t = t} {u = u} l h k (λ j m. e j (omega arith)))
+  where
+    go : Dec (N ≡ i) → (i < N → countWhere N t ≡ countWhere N u + 1) → countWhere (suc N) t ≡ countWhere (suc N) u + 1
+    go (yes m) r = rw (m, h, k, count-ext i {t = t} {u = u} (λ j l. e j (omega arith) (λ z. omega arith))) (omega arith)
+    go (no m) r = rw (e N (omega arith) m, r (omega arith)) (omega arith)
+
+pub count-at : (N p : ℕ) (t : ℕ → Bool) → p < N → t p ≡ true → countWhere N (λ i. eqb i p && t i) ≡ 1
+count-at N p t l h = count-more N p {t = λ i. eqb i p && t i} {u = λ i. false} l (rw (eq-eqb p p refl, h)) refl (λ j m n. rw (ne-eqb j p n)) ∙ rw (count-none N {t = λ i. false} (λ i m. refl))
 
 pub count-within : (lo hi N : ℕ) → countWhere N (within lo hi) ≡ min N hi - lo
 unfolding countWhere
@@ -36,6 +52,31 @@ count-within lo hi (suc N) = go (count-within lo hi N) (decLe lo N) (decLt N hi)
     go ih (yes a) (yes b) = rw (le-leb lo N a, lt-ltb N hi b) (omega arith)
     go ih (yes a) (no b) = rw (le-leb lo N a, le-ltb N hi (omega arith)) (omega arith)
     go ih (no a) b = rw (lt-leb lo N (omega arith)) (omega arith)
+
+-- ---- by the property that is tested
+pub how-many : (N : ℕ) (t : ℕ → Bool) {P : ℕ → Type 0} → ((i : ℕ) → i < N → t i ≡ true → P i) → ((i : ℕ) → i < N → P i → t i ≡ true) → HowMany P N (countWhere N t)
+unfolding countWhere
+how-many zero t to from = none
+how-many (suc N) t {P} to from = go (t N) (to N (omega arith)) (from N (omega arith)) (how-many N t (λ i l. to i (omega arith)) (λ i l. from i (omega arith)))
+  where
+    go : (b : Bool) → (b ≡ true → P N) → (P N → b ≡ true) → HowMany P N (countWhere N t) → HowMany P (suc N) (countWhere N t + cond b 1 0)
+    go true to from h = simp unary-clauses (one-more (to refl) h)
+    go false to from h = simp unary-clauses (no-more (λ p. true≢false (sym (from p))) h)
+
+module _ {P : ℕ → Type 0} where
+  pub how-many-none : (N : ℕ) {k : ℕ} → HowMany P N k → ((i : ℕ) → i < N → P i → ⊥) → k ≡ 0
+  how-many-none zero none e = refl
+  how-many-none (suc N) (one-more p h) e = absurd (e N (omega arith) p)
+  how-many-none (suc N) (no-more p h) e = how-many-none N h (λ i l. e i (omega arith))
+
+  pub how-many-some : (N i : ℕ) {k : ℕ} → HowMany P N k → i < N → P i → 0 < k
+  how-many-some zero i none l p = absurd (omega arith)
+  how-many-some (suc N) i (one-more q h) l p = omega arith
+  how-many-some (suc N) i {k} (no-more q h) l p = go (ℕ-discrete i N) (λ m. how-many-some N i h m p)
+    where
+      go : Dec (i ≡ N) → (i < N → 0 < k) → 0 < k
+      go (yes e) r = absurd (q (subst P e p))
+      go (no e) r = r (omega arith)
 
 -- ---- results that changed
 unlike : (a b : ℤ) → b ≢ a → (ltZ a b || ltZ b a) ≡ true

@@ -24,9 +24,11 @@
 --   Picture      rows first or columns first
 --   Totals       the sum of the results is the divisor times that of the samples
 --   Refusals     which row answers, and what an answer of 0 says
---   Places       the first place where a test is true
---   ShapeRows    rows 1 to 8 of any shape, and one row more
 --   Counts       at how many places a test is true, and how many results changed
+--   Places       the first place where a test is true
+--   Tally        row 11 by a loop that counts
+--   BadSamples   what an answer says of the samples that row 11 tests
+--   ShapeRows    rows 1 to 8 of any shape, and one row more
 --   Edits        what an edit makes of results, and how many change
 --   Nearest      a quotient to the nearest whole number
 --   Carry        remainders carried on
@@ -74,9 +76,11 @@ pub mod Images
 pub mod Picture
 pub mod Totals
 pub mod Refusals
-pub mod Places
-pub mod ShapeRows
 pub mod Counts
+pub mod Places
+pub mod Tally
+pub mod BadSamples
+pub mod ShapeRows
 pub mod Edits
 pub mod Nearest
 pub mod Carry

@@ -1,7 +1,8 @@
 -- The first place where a test is true, and the row that answers with it.
 --   picked start end t   the test t, from start up to end alone
 --   Clear t i            t is false before i
--- Laws: firstWhere-is (by what holds at the place and before it); rowAt-ext, rowAt-off, rowAt-none, rowAt-answer; place-here, place-other (of rows whose last one alone has a position);
+--   OfRow n N t a        the answer a is that of row n
+-- Laws: firstWhere-is (by what holds at the place and before it); rowAt-ext, rowAt-all (all places are picked), rowAt-on, rowAt-off, rowAt-none, rowAt-answer; place-here, place-other (of rows whose last one alone has a position);
 -- first-map (the first place by what the test means); walk-start, walk-next, walk-found, walk-done (a loop from start up to end that answers where t is true);
 -- all-start, all-next, all-found, all-done (the same of a loop over all places).
 use mathlib.Core.Path.{_≡_, refl, sym, _∙_, ap}
@@ -14,9 +15,10 @@ use native.Mathlib.Omega.{arith}
 use lib.Dec.{ltb}
 use borrow.Author.Count.{below-none, below-more}
 use borrow.Author.Tests.{ltb-true, ltb-false, le-ltb, lt-ltb}
-use Rattle.meaning.specs.Refusals.{Answer, Row, firstOf, firstWhere, rowAt, within}
+use Rattle.meaning.specs.Refusals.{Answer, Row, firstOf, firstWhere, badAt, rowAt, within}
 use Rattle.meaning.specs.Bounds.{FirstAt}
-use Rattle.theory.specs.Refusals.{done, off-done, Unplaced, first-parts}
+use Rattle.theory.specs.Refusals.{done, off-done, Below, Unplaced, first-parts}
+use Rattle.theory.specs.Counts.{count-ext}
 use Rattle.theory.specs.Tests.{within-yes, within-before, within-behind}
 
 firstWhere-ext : (N : ℕ) {t u : ℕ → Bool} → ((i : ℕ) → i < N → t i ≡ u i) → firstWhere N t ≡ firstWhere N u
@@ -60,12 +62,17 @@ Clear t i = (j : ℕ) → j < i → t j ≡ false
 pub all-next : {t : ℕ → Bool} {i : ℕ} → Clear t i → t i ≡ false → Clear t (i + 1)
 all-next {t} {i} = below-more (λ j. t j ≡ false) i
 
+pub record OfRow (n N : ℕ) (t : ℕ → Bool) (a : Answer) : Type 0 where
+  pub number : a .number ≡ n
+  pub first : FirstAt N (λ i. t i ≡ true) (a .position)
+  pub bad : a .bad ≡ badAt n N t
+
 module _ (n N : ℕ) where
   pub rowAt-ext : {t u : ℕ → Bool} → ((i : ℕ) → i < N → t i ≡ u i) → rowAt n N t ≡ rowAt n N u
   unfolding rowAt
-  rowAt-ext e = rw (firstWhere-ext N e)
+  rowAt-ext {t} {u} e = rw (firstWhere-ext N e, count-ext N {t = t} {u = u} e)
 
-  rowAt-on : (i : ℕ) {t : ℕ → Bool} → i < N → t i ≡ true → ((j : ℕ) → j < i → t j ≡ false) → (rows : List Row) → firstOf (rowAt n N t ∷ rows) ≡ record { number = n; position = i }
+  pub rowAt-on : (i : ℕ) {t : ℕ → Bool} → i < N → t i ≡ true → ((j : ℕ) → j < i → t j ≡ false) → (rows : List Row) → firstOf (rowAt n N t ∷ rows) ≡ record { number = n; position = i; bad = badAt n N t }
   unfolding rowAt firstOf
   rowAt-on i {t} l h e rows = rw (firstWhere-is N i {t = t} l h e, lt-ltb i N l)
 
@@ -78,25 +85,25 @@ module _ (n N : ℕ) where
   rowAt-none t e i l = firstWhere-before N i t (omega (arith, ltb-false (firstWhere N t) N e))
 
   -- the answer is that row's, or that of the rest
-  pub rowAt-answer : (t : ℕ → Bool) (rows : List Row) {a : Answer} → a ≡ firstOf (rowAt n N t ∷ rows) → ((a .number ≡ n) × FirstAt N (λ i. t i ≡ true) (a .position)) ⊎ ((rowAt n N t .applies ≡ false) × (a ≡ firstOf rows))
+  pub rowAt-answer : (t : ℕ → Bool) (rows : List Row) {a : Answer} → a ≡ firstOf (rowAt n N t ∷ rows) → OfRow n N t a ⊎ ((rowAt n N t .applies ≡ false) × (a ≡ firstOf rows))
   unfolding rowAt firstOf
   rowAt-answer t rows {a} e = go (ltb (firstWhere N t) N) refl e
     where
-      go : (b : Bool) → ltb (firstWhere N t) N ≡ b → a ≡ cond b (record { number = n; position = firstWhere N t }) (firstOf rows) → ((a .number ≡ n) × FirstAt N (λ i. t i ≡ true) (a .position)) ⊎ ((ltb (firstWhere N t) N ≡ false) × (a ≡ firstOf rows))
-      go true h e = inl (rw e (refl, record { within = ltb-true _ _ h; here = firstWhere-at N t (ltb-true _ _ h); before = λ j l k. true≢false (sym k ∙ firstWhere-before N j t l) }))
+      go : (b : Bool) → ltb (firstWhere N t) N ≡ b → a ≡ cond b (record { number = n; position = firstWhere N t; bad = badAt n N t }) (firstOf rows) → OfRow n N t a ⊎ ((ltb (firstWhere N t) N ≡ false) × (a ≡ firstOf rows))
+      go true h e = inl (rw e (record { number = refl; first = record { within = ltb-true _ _ h; here = firstWhere-at N t (ltb-true _ _ h); before = λ j l k. true≢false (sym k ∙ firstWhere-before N j t l) }; bad = refl }))
       go false h e = inr (h, e)
 
   -- of rows that have no position, and then that one
   module _ (rows : List Row) (u : Unplaced n rows) (t : ℕ → Bool) (l : 0 < n) {a : Answer} (e : a ≡ firstOf (rows ++ rowAt n N t ∷ [])) where
-    placed : ((a .number < n) × (a .position ≡ 0)) ⊎ ((a .number ≡ n) × FirstAt N (λ i. t i ≡ true) (a .position))
+    placed : Below n a ⊎ OfRow n N t a
     unfolding firstOf
-    placed = ⊎-elim inl (λ p. ⊎-elim inr (λ q. inl (rw (q .1) (l, refl))) (rowAt-answer t [] (p .1))) (first-parts n rows (rowAt n N t ∷ []) u e)
+    placed = ⊎-elim inl (λ p. ⊎-elim inr (λ q. inl (rw (q .1) (l, refl, refl))) (rowAt-answer t [] (p .1))) (first-parts n rows (rowAt n N t ∷ []) u e)
 
-    pub place-here : a .number ≡ n → FirstAt N (λ i. t i ≡ true) (a .position)
-    place-here h = ⊎-elim (λ p. let no : ⊥ = omega arith in absurd no) (λ p. p .1) placed
+    pub place-here : a .number ≡ n → OfRow n N t a
+    place-here h = ⊎-elim (λ p. let no : ⊥ = omega arith in absurd no) (λ p. p) placed
 
-    pub place-other : (a .number ≡ n → ⊥) → a .position ≡ 0
-    place-other h = ⊎-elim (λ p. p .1) (λ p. absurd (h (p .0))) placed
+    pub place-other : (a .number ≡ n → ⊥) → Below n a
+    place-other h = ⊎-elim (λ p. p) (λ p. absurd (h (p .number))) placed
 
 -- ---- the first place with a property
 pub first-map : {N : ℕ} {P Q : ℕ → Type 0} {i : ℕ} → ((j : ℕ) → j < N → P j → Q j) → ((j : ℕ) → j < N → Q j → P j) → FirstAt N P i → FirstAt N Q i
@@ -107,7 +114,7 @@ module _ (n N : ℕ) (t : ℕ → Bool) where
   pub all-start : Clear t 0
   all-start = below-none (λ j. t j ≡ false)
 
-  pub all-found : (i : ℕ) → i < N → t i ≡ true → Clear t i → record { number = n; position = i } ≡ firstOf (rowAt n N t ∷ [])
+  pub all-found : (i : ℕ) → i < N → t i ≡ true → Clear t i → record { number = n; position = i; bad = badAt n N t } ≡ firstOf (rowAt n N t ∷ [])
   all-found i l e h = sym (rowAt-on n N i {t = t} l e h [])
 
   pub all-done : (i : ℕ) → N ≤ i → Clear t i → done ≡ firstOf (rowAt n N t ∷ [])
@@ -117,6 +124,9 @@ module _ (n N : ℕ) (t : ℕ → Bool) where
 abbrev pub picked : ℕ → ℕ → (ℕ → Bool) → ℕ → Bool
 picked start end t i = within start end i && t i
 
+pub rowAt-all : (n N : ℕ) (t : ℕ → Bool) → rowAt n N (picked 0 N t) ≡ rowAt n N t
+rowAt-all n N t = rowAt-ext n N (λ i l. rw (within-yes 0 N i (omega arith) l))
+
 module _ (start end : ℕ) (t : ℕ → Bool) where
   pub walk-start : Clear (picked start end t) start
   walk-start j l = rw (within-before start end j l)
@@ -124,7 +134,7 @@ module _ (start end : ℕ) (t : ℕ → Bool) where
   pub walk-next : {i : ℕ} → Clear (picked start end t) i → t i ≡ false → Clear (picked start end t) (i + 1)
   walk-next {i} h e = all-next {t = picked start end t} h (rw e (and-false (within start end i)))
 
-  pub walk-found : (n N i : ℕ) → start ≤ i → i < end → end ≤ N → t i ≡ true → Clear (picked start end t) i → record { number = n; position = i } ≡ firstOf (rowAt n N (picked start end t) ∷ [])
+  pub walk-found : (n N i : ℕ) → start ≤ i → i < end → end ≤ N → t i ≡ true → Clear (picked start end t) i → record { number = n; position = i; bad = badAt n N (picked start end t) } ≡ firstOf (rowAt n N (picked start end t) ∷ [])
   walk-found n N i l m k e h = sym (rowAt-on n N i {t = picked start end t} (omega arith) (rw (within-yes start end i l m, e)) h [])
 
   pub walk-done : (n N i : ℕ) → end ≤ i → Clear (picked start end t) i → done ≡ firstOf (rowAt n N (picked start end t) ∷ [])

@@ -1,14 +1,15 @@
 -- The table of numbers: which row answers, and what an answer of 0 says. The first three conditions are tt of rows that are written down.
 --   Numbered rows     no row answers 0
 --   Rising rows       the numbers rise from row to row, from above 0
---   Unplaced m rows   every row has position 0 and a number below m
+--   Below m a         the answer a has a number below m, position 0 and no bad sample
+--   Unplaced m rows   so has every row
 --   Off rows          no row applies
---   done              the answer 0 with position 0
+--   done              the answer 0 with position 0 and no bad sample
 --   rowsOf tests xs   a row for each numbered test, which applies where it is true of one of xs
 --   Lower a b c       c is that of a and b with the lower number, where 0 is none
 -- Laws: first-on, first-off (the first row applies, or not), first-applies (the answer is that of a row that applies), first-lowest (where the numbers rise, of the lowest);
 -- first-parts (the answer is that of rows without position, or that of the rest), first-unplaced;
--- done-off, off-done, done-none, none-done (it is 0 exactly where none applies); number-lowest, number-none (of a call that answers that number); number-zero (of two answers that are the same); off-append, append-off; refused-first, done-rest (rows in two parts);
+-- done-off, off-done, done-none, none-done (it is 0 exactly where none applies); number-lowest, number-none, number-exactly (of a call that answers that number); number-zero (of two answers that are the same); applies-append, off-append, append-off; refused-first, done-rest (rows in two parts);
 -- off-more, more-off (the same tests of one thing more), two-lower (of two things, by the rows of each);
 -- ifDone-done, ifDone-refused, ifDone-ext; plan-numbered, common-numbered, common-size (where row 7 applies, row 8 does not matter).
 use mathlib.Core.Path.{_≡_, refl, sym, _∙_, ap}
@@ -16,7 +17,7 @@ use mathlib.Core.Logic.{_⊎_, inl, inr, ⊎-elim, ⊎-map}
 use mathlib.Core.Bool.{Bool, true, false, cond, _&&_, _||_, true≢false}
 use mathlib.Core.List.{List, [], _∷_, _++_, append-nil}
 use Prim.Native.Nat.{ℕ, _*_, _≤_, _<_}
-use native.Mathlib.Decide.{ℕ-discrete}
+use native.Mathlib.Decide.{ℕ-discrete, decLt}
 use native.Mathlib.Omega.{arith}
 use lib.Dec.{T, ltb, eqb}
 use borrow.Author.Tests.{ltb-true, eqb-true, eq-eqb, ne-eqb}
@@ -25,7 +26,7 @@ use Rattle.theory.specs.Tests.{or-no, no-or}
 use Rattle.meaning.specs.Refusals.{Answer, Row, firstOf, Applies, here, later, _when_, some, Shape, planRows, sizeRows, commonRows, ifDone}
 
 abbrev pub done : Answer
-done = record { number = 0; position = 0 }
+done = record { number = 0; position = 0; bad = 0 }
 
 abbrev numbered : List Row → Bool
 numbered [] = true
@@ -41,9 +42,12 @@ risesFrom n (row ∷ rows) = ltb n (row .answer .number) && risesFrom (row .answ
 abbrev pub Rising : List Row → Type 0
 Rising rows = T (risesFrom 0 rows)
 
+abbrev pub Below : ℕ → Answer → Type 0
+Below m a = (a .number < m) × (a .position ≡ 0) × (a .bad ≡ 0)
+
 abbrev unplaced : ℕ → List Row → Bool
 unplaced m [] = true
-unplaced m (row ∷ rows) = ltb (row .answer .number) m && (eqb (row .answer .position) 0 && unplaced m rows)
+unplaced m (row ∷ rows) = ltb (row .answer .number) m && (eqb (row .answer .position) 0 && (eqb (row .answer .bad) 0 && unplaced m rows))
 
 abbrev pub Unplaced : ℕ → List Row → Type 0
 Unplaced m rows = T (unplaced m rows)
@@ -109,15 +113,16 @@ pub first-lowest : (rows : List Row) {n : ℕ} → Rising rows → Applies n row
 first-lowest rows t k = lowest-from 0 rows t k .0
 
 -- ---- rows with position 0
-pub first-parts : (m : ℕ) (rows more : List Row) → Unplaced m rows → {a : Answer} → a ≡ firstOf (rows ++ more) → ((a .number < m) × (a .position ≡ 0)) ⊎ (Off rows × (a ≡ firstOf more))
+pub first-parts : (m : ℕ) (rows more : List Row) → Unplaced m rows → {a : Answer} → a ≡ firstOf (rows ++ more) → Below m a ⊎ (Off rows × (a ≡ firstOf more))
 unfolding firstOf
 first-parts m [] more t e = inr (tt, e)
 first-parts m (row ∷ rows) more t {a} e =
-    let (l, u) = split-lt (row .answer .number) m (eqb (row .answer .position) 0 && unplaced m rows) t in
-    let (z, v) = split (eqb (row .answer .position) 0) (unplaced m rows) u in
-    go (row .applies) refl (l, eqb-true _ _ z) (first-parts m rows more v) e
+    let (l, u) = split-lt (row .answer .number) m (eqb (row .answer .position) 0 && (eqb (row .answer .bad) 0 && unplaced m rows)) t in
+    let (z, v) = split (eqb (row .answer .position) 0) (eqb (row .answer .bad) 0 && unplaced m rows) u in
+    let (b, w) = split (eqb (row .answer .bad) 0) (unplaced m rows) v in
+    go (row .applies) refl (l, eqb-true _ _ z, eqb-true _ _ b) (first-parts m rows more w) e
   where
-    go : (b : Bool) → row .applies ≡ b → (row .answer .number < m) × (row .answer .position ≡ 0) → (a ≡ firstOf (rows ++ more) → ((a .number < m) × (a .position ≡ 0)) ⊎ (Off rows × (a ≡ firstOf more))) → a ≡ cond b (row .answer) (firstOf (rows ++ more)) → ((a .number < m) × (a .position ≡ 0)) ⊎ (((row .applies ≡ false) × Off rows) × (a ≡ firstOf more))
+    go : (b : Bool) → row .applies ≡ b → Below m (row .answer) → (a ≡ firstOf (rows ++ more) → Below m a ⊎ (Off rows × (a ≡ firstOf more))) → a ≡ cond b (row .answer) (firstOf (rows ++ more)) → Below m a ⊎ (((row .applies ≡ false) × Off rows) × (a ≡ firstOf more))
     go true h p k e = inl (rw e p)
     go false h p k e = ⊎-map (λ q. q) (λ q. ((h, q .0), q .1)) (k e)
 
@@ -151,7 +156,21 @@ module _ (rows : List Row) {n : ℕ} (e : n ≡ firstOf rows .number) where
   pub number-none : Numbered rows → (n ≡ 0 → (m : ℕ) → Applies m rows → ⊥) × (((m : ℕ) → Applies m rows → ⊥) → n ≡ 0)
   number-none t = rw e (λ z m k. done-none rows t z k, none-done rows)
 
+  pub number-exactly : Rising rows → Numbered rows → {k : ℕ} → Applies k rows → ((m : ℕ) → m < k → Applies m rows → ⊥) → n ≡ k
+  number-exactly t u {k} on lower =
+      let (first, least) = number-lowest t in
+      let some : n ≡ 0 → ⊥ = λ z. number-none u .0 z k on in
+      go (decLt n k) (first some) (least k on)
+    where
+      go : Dec (n < k) → Applies n rows → n ≤ k → n ≡ k
+      go (yes l) h m = absurd (lower n l h)
+      go (no l) h m = omega arith
+
 -- ---- rows in two parts
+pub applies-append : (rows : List Row) {more : List Row} {n : ℕ} → Applies n more → Applies n (rows ++ more)
+applies-append [] h = h
+applies-append (row ∷ rows) h = later (applies-append rows h)
+
 pub off-append : (rows more : List Row) → Off rows → Off more → Off (rows ++ more)
 off-append [] more h k = k
 off-append (row ∷ rows) more h k = (h .0, off-append rows more (h .1) k)

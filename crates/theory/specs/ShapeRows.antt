@@ -47,7 +47,7 @@ module _ (s : Shape) (M : ℕ) (w : Bool) (n N : ℕ) (t : ℕ → Bool) where
 -- ---- a row that looks for sizes above L among the numbers of f
 module _ (s : Shape) (M : ℕ) (w : Bool) (n : ℕ) (u : Unplaced n (commonRows s M w)) (l : 0 < n) (L : ℕ) (f : List ℤ) {a : Answer} (e : a ≡ firstOf (shapeRows s M w n (length f) (λ i. above L (at f i)))) where
   pub shape-position : a .number ≡ n → FirstAt (length f) (λ i. L < natAbs (at f i)) (a .position)
-  shape-position h = first-map (λ i l k. ltb-true _ _ k) (λ i l k. lt-ltb _ _ k) (place-here n (length f) (commonRows s M w) u _ l e h)
+  shape-position h = first-map (λ i l k. ltb-true _ _ k) (λ i l k. lt-ltb _ _ k) (place-here n (length f) (commonRows s M w) u _ l e h .first)
 
   pub shape-no-position : (a .number ≡ n → ⊥) → a .position ≡ 0
-  shape-no-position h = place-other n (length f) (commonRows s M w) u _ l e h
+  shape-no-position h = place-other n (length f) (commonRows s M w) u _ l e h .1

@@ -1,0 +1,52 @@
+-- What an answer says of the samples that row 11 tests.
+--   Counted P N rows a   of N samples, where P says that one is tested and bad: how many are bad by the answer a of the rows, and when it is 11
+-- Laws: none-behind (no row stands behind row 11); bad-counted (of rows with no position, then row 11, then others).
+use mathlib.Core.Path.{_≡_, refl, sym, ap, _∙_}
+use mathlib.Core.Logic.{_⊎_, inl, inr, ⊎-elim}
+use mathlib.Core.Bool.{Bool, true, false, true≢false}
+use mathlib.Core.List.{List, [], _∷_, _++_}
+use mathlib.Mathlib.Data.Bool.Basic.{eq-true-of-not-eq-false}
+use Prim.Native.Nat.{ℕ, _<_}
+use native.Mathlib.Omega.{arith}
+use Rattle.meaning.specs.Refusals.{Answer, Row, firstOf, Applies, here, rowAt}
+use Rattle.meaning.specs.Bounds.{HowMany}
+use Rattle.theory.specs.Refusals.{Numbered, Rising, Unplaced, first-parts, number-lowest, number-exactly, applies-append}
+use Rattle.theory.specs.Counts.{how-many, how-many-none, how-many-some}
+use Rattle.theory.specs.Places.{OfRow, rowAt-none, rowAt-answer}
+
+pub record Counted (P : ℕ → Type 0) (N : ℕ) (rows : List Row) (a : Answer) : Type 0 where
+  pub count : a .number ≡ 11 → HowMany P N (a .bad)
+  pub other : (a .number ≡ 11 → ⊥) → a .bad ≡ 0
+  pub some : a .number ≡ 11 → a .bad ≡ 0 → ⊥
+  pub eleven : {k : ℕ} → HowMany P N k → (k ≡ 0 → ⊥) → ((n : ℕ) → n < 11 → Applies n rows → ⊥) → a .number ≡ 11
+
+pub none-behind : {a : Answer} → a ≡ firstOf [] → (a .number ≡ 11 → ⊥) × (a .bad ≡ 0)
+unfolding firstOf
+none-behind e = rw e (λ n. omega arith, refl)
+
+module _ (front rest : List Row) (u : Unplaced 11 front) (N : ℕ) (t : ℕ → Bool) {P : ℕ → Type 0} (to : (i : ℕ) → i < N → t i ≡ true → P i) (from : (i : ℕ) → i < N → P i → t i ≡ true) where
+  abbrev rows : List Row
+  rows = front ++ rowAt 11 N t ∷ rest
+
+  -- where one is bad, row 11 applies
+  applies-11 : {k : ℕ} → HowMany P N k → (k ≡ 0 → ⊥) → Applies 11 rows
+  unfolding rowAt
+  applies-11 h n = applies-append front (here refl (eq-true-of-not-eq-false (λ e. n (how-many-none N h (λ i l p. true≢false (sym (from i l p) ∙ rowAt-none 11 N t e i l))))))
+
+  module _ {a : Answer} (e : a ≡ firstOf rows) (others : a ≡ firstOf rest → (a .number ≡ 11 → ⊥) × (a .bad ≡ 0)) where
+    either : OfRow 11 N t a ⊎ ((a .number ≡ 11 → ⊥) × (a .bad ≡ 0))
+    either = ⊎-elim (λ p. inr (λ n. let no : ⊥ = omega arith in no, p .2)) (λ p. ⊎-elim inl (λ q. inr (others (q .1))) (rowAt-answer 11 N t rest (p .1))) (first-parts 11 front _ u e)
+
+    of-11 : a .number ≡ 11 → OfRow 11 N t a
+    of-11 n = ⊎-elim (λ p. p) (λ p. absurd (p .0 n)) either
+
+    count-11 : a .number ≡ 11 → HowMany P N (a .bad)
+    count-11 n = rw (of-11 n .bad) (how-many N t to from)
+
+    pub bad-counted : Rising rows → Numbered rows → Counted P N rows a
+    bad-counted r m = record {
+      count = count-11;
+      other = λ n. ⊎-elim (λ p. absurd (n (p .number))) (λ p. p .1) either;
+      some = λ n z. let f = of-11 n .first in let l = how-many-some N _ (count-11 n) (f .within) (to _ (f .within) (f .here)) in omega arith;
+      eleven = λ h k lower. number-exactly rows (ap (λ (x : Answer). x .number) e) r m (applies-11 h k) lower;
+    }
