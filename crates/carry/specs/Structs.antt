@@ -4,4 +4,4 @@ use Rattle.meaning.specs.Refusals.{Answer}
 use Rattle.carry.specs.declared.Carried.{Carried}
 
 abbrev pub answerOf : Carried → Answer
-answerOf c = record { number = c .number; position = c .position }
+answerOf c = record { number = c .number; position = c .position; bad = 0 }

@@ -34,6 +34,7 @@ pub fn edit_series(
             number: answer.number,
             position: answer.position,
             count: 0,
+            bad: answer.bad,
         };
     }
     let change = value - samples[position] as i64;

@@ -99,6 +99,7 @@ pub fn edit_by(taps: &[i64], limit: u64, p: usize, change: i64, results: &mut [i
             number: answer.number,
             position: answer.position,
             count: 0,
+            bad: 0,
         };
     }
     add_gains(taps, p, change, results, start, end);
@@ -106,5 +107,6 @@ pub fn edit_by(taps: &[i64], limit: u64, p: usize, change: i64, results: &mut [i
         number: 0,
         position: 0,
         count: count(change, start, end),
+        bad: 0,
     }
 }

@@ -1,9 +1,9 @@
 // Smoothing a picture.
 ghost use Rattle.meaning.specs.Extension.{fold};
 ghost use Rattle.meaning.specs.Calls.{smoothPicture};
-ghost use Rattle.plan.specs.Structs.{stagesOf, answerOf};
+ghost use Rattle.plan.specs.Structs.{stagesOf, checkedAnswer};
 ghost use Rattle.series.specs.Contract.{Gives};
-use plan::Answer;
+use plan::Checked;
 use plan::Plan;
 
 mod smoothing;
@@ -20,8 +20,8 @@ pub fn smooth_picture(
     samples: &[i32],
     results: &mut [i64],
     work: &mut [i64],
-) -> Answer
-    ensures { λ r. ⌜ Gives (smoothPicture fold fold (stagesOf across) (stagesOf down) bound width height (now (samples .entry)) (now (results .entry)) (now (work .entry))) (answerOf r) (now (results .exit)) (now (work .exit)) ⌝ }
+) -> Checked
+    ensures { λ r. ⌜ Gives (smoothPicture fold fold (stagesOf across) (stagesOf down) bound width height (now (samples .entry)) (now (results .entry)) (now (work .entry))) (checkedAnswer r) (now (results .exit)) (now (work .exit)) ⌝ }
 {
     let answer = testing::refusal(
         across,

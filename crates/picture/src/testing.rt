@@ -3,8 +3,8 @@ ghost use mathlib.Core.Path.{_≡_};
 ghost use mathlib.Core.Bool.{_||_};
 ghost use Rattle.meaning.specs.Refusals as R;
 ghost use Rattle.meaning.specs.Calls as C;
-ghost use Rattle.plan.specs.Structs.{stagesOf, answerOf};
-use plan::Answer;
+ghost use Rattle.plan.specs.Structs.{stagesOf, checkedAnswer};
+use plan::Checked;
 use plan::Plan;
 
 // Is one of the three slices not of so many cells?
@@ -27,17 +27,18 @@ pub(crate) fn refusal(
     samples: &[i32],
     results: usize,
     work: usize,
-) -> Answer
-    ensures { λ r. ⌜ answerOf r ≡ R.firstOf (C.smoothRows (R.pictureOf (stagesOf across) (stagesOf down) width height) bound (now (samples .entry)) results work) ⌝ }
+) -> Checked
+    ensures { λ r. ⌜ checkedAnswer r ≡ R.firstOf (C.smoothRows (R.pictureOf (stagesOf across) (stagesOf down) width height) bound (now (samples .entry)) results work) ⌝ }
 {
     let n = samples.len();
     let cells = refusals::inner::picture_cells(width, height);
     let wrong_length = lengths_differ(cells, n, results, work);
     let number = refusals::inner::picture_refusal(across, down, bound, width, height, wrong_length);
     if number != 0 {
-        return Answer {
+        return Checked {
             number,
             position: 0,
+            bad: 0,
         };
     }
     refusals::inner::sample_refusal(bound, samples, 0, n)

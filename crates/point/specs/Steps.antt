@@ -39,7 +39,7 @@ module _ (ss : List Stage) (M n : ℕ) (f w : List ℤ) {a : Answer} (e : a ≡ 
   pub pointable : a .number ≡ 0 → Pointable ss n f
   pointable z = let ok = point-allowed ss M n f (length w) (number-zero e z) in record { bound = M; common = ok .common; place = ok .position; samples = ok .samples }
 
-  pub call-refused : (a .number ≡ 0 → ⊥) → Gives (point fold ss M n f w) (Refused (a .number) (a .position)) w
+  pub call-refused : (a .number ≡ 0 → ⊥) → Gives (point fold ss M n f w) (Refused (a .number) (a .position) (a .bad)) w
   unfolding point
   call-refused h = rw (← e) (record { answer = sym (pointOf-refused a _ h); work = sym (ifDone-refused a _ w h) })
 

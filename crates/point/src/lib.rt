@@ -14,7 +14,7 @@ pub fn point(plan: Plan, bound: u64, position: usize, samples: &[i32], work: &mu
 {
     let answer = testing::refusal(plan, bound, position, samples, work.len());
     if answer.number != 0 {
-        return Point::Refused(answer.number, answer.position);
+        return Point::Refused(answer.number, answer.position, answer.bad);
     }
     let result = result::inner::result(plan, samples, position);
     pass::inner::clear(work);

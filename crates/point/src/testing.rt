@@ -2,8 +2,8 @@
 ghost use mathlib.Core.Path.{_≡_};
 ghost use Rattle.meaning.specs.Refusals as R;
 ghost use Rattle.meaning.specs.Calls as C;
-ghost use Rattle.plan.specs.Structs.{stagesOf, answerOf};
-use plan::Answer;
+ghost use Rattle.plan.specs.Structs.{stagesOf, checkedAnswer};
+use plan::Checked;
 use plan::Plan;
 
 // What a point answers where it is refused: of the samples only those within reach are looked at.
@@ -13,16 +13,17 @@ pub(crate) fn refusal(
     position: usize,
     samples: &[i32],
     work: usize,
-) -> Answer
-    ensures { λ r. ⌜ answerOf r ≡ R.firstOf (C.pointRows (stagesOf plan) bound position (now (samples .entry)) work) ⌝ }
+) -> Checked
+    ensures { λ r. ⌜ checkedAnswer r ≡ R.firstOf (C.pointRows (stagesOf plan) bound position (now (samples .entry)) work) ⌝ }
 {
     let n = samples.len();
     let wrong_length = work != refusals::inner::edit_room(n);
     let number = refusals::inner::position_refusal(plan, bound, n, wrong_length, position);
     if number != 0 {
-        return Answer {
+        return Checked {
             number,
             position: 0,
+            bad: 0,
         };
     }
     let reach = plan.reach() as usize;

@@ -8,9 +8,9 @@ ghost use lib.Ieee.{nan, toSigned};
 ghost use Rattle.meaning.specs.Limits.{maxBound};
 ghost use Rattle.meaning.specs.Refusals as R;
 ghost use Rattle.meaning.specs.Values as meant;
-ghost use Rattle.plan.specs.Structs.{answerOf};
+ghost use Rattle.plan.specs.Structs.{checkedAnswer};
 ghost use Rattle.samples.specs.Taking.{Takable};
-use plan::Answer;
+use plan::Checked;
 use plan::Plan;
 
 // Is x finite, whole and of size at most the bound? The first two tests are false of a NaN, and leave what an i64 holds.
@@ -31,38 +31,42 @@ fn takes(bound: u64, x: f64) -> bool
     whole as f64 == x
 }
 
-// Row 11: the first double that is not acceptable.
-fn double_refusal(bound: u64, doubles: &[f64]) -> Answer
+// Row 11, of all doubles. From the last down, as samples are tested.
+fn double_refusal(bound: u64, doubles: &[f64]) -> Checked
     requires { ⌜ bound ≤ maxBound ⌝ }
-    ensures { λ r. ⌜ answerOf r ≡ R.firstOf (R.rowAt 11 (length (now (doubles .entry))) (λ i. not (meant.takes bound (getD (now (doubles .entry)) i nan))) ∷ []) ⌝ }
+    ensures { λ r. ⌜ checkedAnswer r ≡ R.firstOf (R.rowAt 11 (length (now (doubles .entry))) (λ i. not (meant.takes bound (getD (now (doubles .entry)) i nan))) ∷ []) ⌝ }
 {
-    let mut i: usize = 0;
-    while i < doubles.len() {
-        if !takes(bound, doubles[i]) {
-            return Answer {
-                number: 11,
-                position: i,
-            };
-        }
-        i += 1;
-    }
-    Answer {
+    let mut answer = Checked {
         number: 0,
         position: 0,
+        bad: 0,
+    };
+    let mut i = doubles.len();
+    while i > 0 {
+        i -= 1;
+        if !takes(bound, doubles[i]) {
+            answer = Checked {
+                number: 11,
+                position: i,
+                bad: answer.bad + 1,
+            };
+        }
     }
+    answer
 }
 
 // There is no plan, and so no product that could be too large.
-pub(crate) fn refusal(bound: u64, doubles: &[f64], samples: usize) -> Answer
-    ensures { λ r. ⌜ answerOf r ≡ R.firstOf (meant.doubleRows bound (now (doubles .entry)) samples) ⌝ }
+pub(crate) fn refusal(bound: u64, doubles: &[f64], samples: usize) -> Checked
+    ensures { λ r. ⌜ checkedAnswer r ≡ R.firstOf (meant.doubleRows bound (now (doubles .entry)) samples) ⌝ }
 {
     let n = doubles.len();
     let bad_size = plan::inner::outside(Plan::LEAST, Plan::MAX_LENGTH, n as u64);
     let number = refusals::inner::size_refusal(bound, 0, bad_size, samples != n);
     if number != 0 {
-        return Answer {
+        return Checked {
             number,
             position: 0,
+            bad: 0,
         };
     }
     double_refusal(bound, doubles)

@@ -21,7 +21,7 @@ use Rattle.theory.specs.Stages.{room-replicate}
 use Rattle.theory.specs.Passes.{length-results, results-none, results-cons}
 use Rattle.theory.specs.Sizes.{results-size}
 use Rattle.theory.specs.Refusals.{ifDone-done, ifDone-refused, number-zero}
-use Rattle.theory.specs.Places.{rowAt-ext}
+use Rattle.theory.specs.Places.{rowAt-all}
 use Rattle.theory.specs.ShapeRows.{shape-refused, shape-rest}
 use Rattle.theory.specs.Tests.{no-differs}
 use Rattle.theory.specs.AcceptedSmoothings.{series-allowed}
@@ -39,7 +39,7 @@ module _ (s : Shape) (M : ℕ) (f : List ℤ) (nr nw : ℕ) where
 
   rows-tested : smoothRows s M f nr nw ≡ commonRows s M lengths ++ sampleRow M f (within 0 (length f)) ∷ []
   unfolding smoothRows
-  rows-tested = rw (rowAt-ext 11 (length f) {t = λ i. true && above M (at f i)} {u = λ i. within 0 (length f) i && above M (at f i)} (λ i l. rw (le-leb 0 i (omega arith), lt-ltb i (length f) l)))
+  rows-tested = rw (rowAt-all 11 (length f) (λ i. above M (at f i)))
 
   module _ {a : Answer} {wrong : Bool} (e : a ≡ firstOf (commonRows s M wrong)) (w : s .badSize ≡ false → wrong ≡ lengths) where
     pub test-refused : (a .number ≡ 0 → ⊥) → a ≡ firstOf (smoothRows s M f nr nw)

@@ -1,9 +1,9 @@
 // Smoothing a series.
 ghost use Rattle.meaning.specs.Extension.{fold};
 ghost use Rattle.meaning.specs.Calls.{smoothSeries};
-ghost use Rattle.plan.specs.Structs.{stagesOf, answerOf};
+ghost use Rattle.plan.specs.Structs.{stagesOf, checkedAnswer};
 ghost use Rattle.series.specs.Contract.{Gives};
-use plan::Answer;
+use plan::Checked;
 use plan::Plan;
 
 pub mod inner;
@@ -16,8 +16,8 @@ pub fn smooth_series(
     samples: &[i32],
     results: &mut [i64],
     work: &mut [i64],
-) -> Answer
-    ensures { λ r. ⌜ Gives (smoothSeries fold (stagesOf plan) bound (now (samples .entry)) (now (results .entry)) (now (work .entry))) (answerOf r) (now (results .exit)) (now (work .exit)) ⌝ }
+) -> Checked
+    ensures { λ r. ⌜ Gives (smoothSeries fold (stagesOf plan) bound (now (samples .entry)) (now (results .entry)) (now (work .entry))) (checkedAnswer r) (now (results .exit)) (now (work .exit)) ⌝ }
 {
     let answer = testing::refusal(plan, bound, samples, results.len(), work.len());
     if answer.number != 0 {

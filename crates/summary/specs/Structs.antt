@@ -17,7 +17,7 @@ use Rattle.summary.specs.declared.Summary.{Summary}
 
 abbrev pub summaryOf : Summary → meant.Summary
 summaryOf s = record {
-  answer = record { number = s .number; position = s .position };
+  answer = record { number = s .number; position = s .position; bad = 0 };
   lowest = s .lowest;
   highest = s .highest;
   lowestAt = s .«lowest_at»;

@@ -10,7 +10,7 @@ use mir.Facts.{toZ-ofZ}
 use Rattle.algebra.specs.Size.{fits-wider}
 use Rattle.meaning.specs.Extension.{at}
 use Rattle.meaning.specs.Refusals.{firstOf}
-use Rattle.plan.specs.Structs.{stagesOf, answerOf}
+use Rattle.plan.specs.Structs.{stagesOf, checkedAnswer}
 use Rattle.edit.specs.Rows.{frontRows}
 use Rattle.edit.specs.Steps.{position-inside, value-fits, change-fits, editable, call-refused, call-too-large, call-done}
 use Rattle.edit.proofs.edit_series.Statement.{statement}
@@ -27,7 +27,7 @@ module _ (c : tie.After-refusal) where
   abbrev start : tie.Start
   start = c .before .before
 
-  tested : let a = start .args in answerOf (c .refusal .result) ≡ firstOf (frontRows (stagesOf (a .plan)) (a .bound) (a .position) (a .value) (a .samples .now) (length (a .results .now)) (length (a .work .now)))
+  tested : let a = start .args in checkedAnswer (c .refusal .result) ≡ firstOf (frontRows (stagesOf (a .plan)) (a .bound) (a .position) (a .value) (a .samples .now) (length (a .results .now)) (length (a .work .now)))
   tested = rw (toZ-ofZ (start .fits .value)) at (c .refusal .ensures)
 
 returns : tie.Need-returns
