@@ -16,10 +16,11 @@
 --   AllowedSigma s K b        of the planner
 --   FirstAt N P i             i is the first of 0 .. N - 1 with the property P
 --   HowMany P N k             k of 0 .. N - 1 have the property P
+--   Counted P N rows a        what the answer a of the rows says of N samples, where P says that one is tested and not acceptable
 --   TooLarge φ ss L p d r n   result n is within reach of p, and has a size above L, or would get one where sample p changes by d
 use Prim.Native.Nat.{ℕ, suc, _*_, _≤_, _<_}
 use mathlib.Core.Path.{_≡_}
-use mathlib.Core.Logic.{_⊎_}
+use mathlib.Core.Logic.{_⊎_, _≢_}
 use mathlib.Core.Bool.{Bool}
 use mathlib.Core.List.{List, [], _∷_}
 use lib.ListN.{length, getD}
@@ -30,6 +31,7 @@ use Rattle.meaning.specs.Limits.{least, maxPasses, maxRadius, maxInner, 
 use Rattle.meaning.specs.Extension.{at, IndexMap}
 use Rattle.meaning.specs.Kernel.{Stage, reach, divisor}
 use Rattle.meaning.specs.Smoothing.{weight, apart}
+use Rattle.meaning.specs.Refusals.{Answer, Row, Applies}
 use Rattle.meaning.specs.Calls.{editRoom}
 
 pub record AllowedStage (s : Stage) : Type 0 where
@@ -133,6 +135,14 @@ pub data HowMany (P : ℕ → Type 0) : ℕ → ℕ → Type 0 where
   none : HowMany P 0 0
   one-more : {N k : ℕ} → P N → HowMany P N k → HowMany P (suc N) (suc k)
   no-more : {N k : ℕ} → (P N → ⊥) → HowMany P N k → HowMany P (suc N) k
+
+-- the number of bad samples is how many there are at 11, and then not 0; else it is 0. And 11 is given exactly where there are some, and no row below it applies.
+pub record Counted (P : ℕ → Type 0) (N : ℕ) (rows : List Row) (a : Answer) : Type 0 where
+  pub count : a .number ≡ 11 → HowMany P N (a .bad)
+  pub some : a .number ≡ 11 → a .bad ≢ 0
+  pub other : a .number ≢ 11 → a .bad ≡ 0
+  pub given : a .number ≡ 11 → {k : ℕ} → HowMany P N k → (k ≢ 0) × ((n : ℕ) → n < 11 → Applies n rows → ⊥)
+  pub exactly : {k : ℕ} → HowMany P N k → k ≢ 0 → ((n : ℕ) → n < 11 → Applies n rows → ⊥) → a .number ≡ 11
 
 abbrev pub TooLarge : IndexMap → List Stage → ℕ → ℕ → ℤ → List ℤ → ℕ → Type 0
 TooLarge φ ss L p d r n = (apart n p ≤ reach ss) × ((L < natAbs (at r n)) ⊎ (L < natAbs (at r n +ℤ d *ℤ weight φ ss (length r) (pos n) p)))

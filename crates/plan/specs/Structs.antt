@@ -4,6 +4,7 @@
 --   answerOf a   the answer of a call that tests no samples: none is bad
 --   plain n      the answer n, with position 0 and no bad sample
 --   checkedAnswer c, editAnswer e   the answers of a call that tests samples, and of an edit
+--   asAnswer m, asChecked m   the struct that has the fields of the answer m
 --   pointAnswer q, pointValue q   answer and value of each case of what a point answers; a refused one has plus zero
 --   pointOf a x    what a point answers: the value x where a is done, else a
 -- Laws: pointOf-done, pointOf-refused (which case it is); pointAnswer-of (where 0 is done, its answer is a).
@@ -39,6 +40,12 @@ plain n = record { number = n; position = 0; bad = 0 }
 
 abbrev pub checkedAnswer : Checked → meant.Answer
 checkedAnswer c = record { number = c .number; position = c .position; bad = c .bad }
+
+abbrev pub asAnswer : meant.Answer → Answer
+asAnswer m = record { number = m .number; position = m .position }
+
+abbrev pub asChecked : meant.Answer → Checked
+asChecked m = record { number = m .number; position = m .position; bad = m .bad }
 
 abbrev pub editAnswer : Edited → meant.Answer
 editAnswer e = record { number = e .number; position = e .position; bad = e .bad }

@@ -1,7 +1,7 @@
 -- Doubles in: `samples::doubles_in` by its own contract, for all inputs.
 --   DoublesCall        any call, as its contract lets it end
 --   bound, doubles, samples   what it was given
---   number, place      what it answered
+--   number, place, bad what it answered
 --   samplesLeft        what it left
 --   double c i, sample c i    the double at i, and the sample left there
 --   rows, Allowed      its rows of the table of numbers, and the bounds of document 01
@@ -9,6 +9,7 @@
 --   doubles-in-lowest  the number is 0, or that of a row that applies, and then the lowest of those
 --   doubles-in-done, doubles-in-allowed   it is 0 exactly where no row applies, and exactly where the bounds hold
 --   doubles-in-place-11, doubles-in-place-other   at 11 the place is that of the first double that is no whole number of size at most the bound, else 0
+--   doubles-in-bad     at 11, and there alone, bad is not 0, and how many doubles are no such number; and 11 is given exactly where some are not and no lower row applies
 --   doubles-in-unchanged   a refused call leaves every sample as it was
 --   doubles-in-length  one that is done leaves as many samples as there are doubles
 --   doubles-in-samples each of them equals its double, and has size at most the bound
@@ -31,15 +32,15 @@ use Rattle.meaning.specs.Extension.{at}
 use Rattle.meaning.specs.Refusals as meant
 use Rattle.meaning.specs.Refusals.{Row, firstOf, Applies}
 use Rattle.meaning.specs.Values.{Converted, takes, doubleRows, doublesIn}
-use Rattle.meaning.specs.Bounds.{WholeDouble, AllowedDoubles, FirstAt}
+use Rattle.meaning.specs.Bounds.{WholeDouble, AllowedDoubles, FirstAt, Counted}
 use Rattle.theory.specs.Refusals.{number-lowest, number-none, ifDone-done, ifDone-refused}
 use Rattle.theory.specs.Fill.{getD-map}
 use Rattle.theory.specs.Doubles.{whole-takes, taken-size, taken-same, back-taken, minus-zero}
 use Rattle.theory.specs.AcceptedDoubles as tested
-use Rattle.plan.specs.Structs.{answerOf}
+use Rattle.plan.specs.Structs.{checkedAnswer, asChecked}
 use Rattle.samples.proofs.doubles_in.Reads as doubles-in
 use Rattle.samples.proofs.doubles_in.Kinds as kinds
-use Rattle.promises.specs.Smoothings.{Exactly, back}
+use Rattle.promises.specs.Smoothings.{Exactly}
 
 pub record DoublesCall : Type 1 where
   pub lifetimes : Lfts 2
@@ -64,6 +65,9 @@ number c = c .answered .number
 abbrev pub place : DoublesCall → ℕ
 place c = c .answered .position
 
+abbrev pub bad : DoublesCall → ℕ
+bad c = c .answered .bad
+
 abbrev pub samplesLeft : DoublesCall → List ℤ
 samplesLeft c = now (c .left .1 .1 .0)
 
@@ -81,7 +85,7 @@ Allowed c = AllowedDoubles (bound c) (doubles c) (length (samples c))
 
 -- ---- one call
 module _ (c : DoublesCall) where
-  answer-is : answerOf (c .answered) ≡ firstOf (rows c)
+  answer-is : checkedAnswer (c .answered) ≡ firstOf (rows c)
   unfolding doublesIn
   answer-is = c .learnt .answer
 
@@ -102,6 +106,9 @@ module _ (c : DoublesCall) where
 
   pub doubles-in-place-other : number c ≢ 11 → place c ≡ 0
   doubles-in-place-other = tested.double-no-position _ _ _ answer-is
+
+  pub doubles-in-bad : Counted (λ i. WholeDouble (bound c) (double c i) → ⊥) (length (doubles c)) (rows c) (checkedAnswer (c .answered))
+  doubles-in-bad = tested.double-bad _ _ _ answer-is
 
   pub doubles-in-unchanged : number c ≢ 0 → samplesLeft c ≡ samples c
   unfolding doublesIn
@@ -139,6 +146,6 @@ outcome-same m x f = rw (m, x, f)
 pub doubles-in-one : (c d : DoublesCall) → bound c ≡ bound d → doubles c ≡ doubles d → samples c ≡ samples d → (c .answered ≡ d .answered) × (samplesLeft c ≡ samplesLeft d)
 doubles-in-one c d m x f =
     let same = outcome-same m x f in (
-      ap back (c .learnt .answer ∙ ap (λ (o : Converted ℤ). o .answer) same ∙ sym (d .learnt .answer)),
+      ap asChecked (c .learnt .answer ∙ ap (λ (o : Converted ℤ). o .answer) same ∙ sym (d .learnt .answer)),
       c .learnt .cells ∙ ap (λ (o : Converted ℤ). o .cells) same ∙ sym (d .learnt .cells),
     )

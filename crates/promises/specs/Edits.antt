@@ -1,7 +1,7 @@
 -- An edit of a stored smoothing: `edit::edit_series` by its own contract, for all inputs. Lists of edits are in EditLists.
 --   EditCall           any call, as its contract lets it end
 --   plan, bound, position, value, samples, results, work   what it was given; stages are the plan's, old is the sample at the position
---   number, place, count, samplesLeft, resultsLeft, workLeft   what it answered (place is the position answered), and left
+--   number, place, count, bad, samplesLeft, resultsLeft, workLeft   what it answered (place is the position answered), and left
 --   rows, Allowed      its rows of the table of numbers, and the bounds of document 01
 --   Near c n           index n is within reach of the position
 --   Stored             samples and results; before c and after c are those that a call was given and left
@@ -9,6 +9,7 @@
 --   edit-lowest        the number is 0, or that of a row that applies, and then the lowest of those
 --   edit-done, edit-allowed   it is 0 exactly where no row applies, and exactly where the bounds hold
 --   edit-place-11, edit-place-12, edit-place-other   at 11 the place is the position, and the old sample above the bound; at 12 it is the first result within reach that is, or would get, too large; else 0
+--   edit-bad, edit-bad-one   at 11, and there alone, bad is not 0, and how many of the one sample tested are above the bound, so 1; and 11 is given exactly where it is and no lower row applies
 --   edit-unchanged     a refused edit leaves every cell as it was, and counts 0
 --   edit-sample        an accepted one sets the sample at its position to the value
 --   edit-length, edit-gains, edit-stays   there are as many results as samples; each result within reach gains (new - old) times its weight, and all others stay
@@ -42,7 +43,7 @@ use Rattle.meaning.specs.Refusals as meant
 use Rattle.meaning.specs.Refusals.{Row, firstOf, Applies, ifDone, zeros}
 use Rattle.meaning.specs.Calls as outcomes
 use Rattle.meaning.specs.Calls.{gained, changed, editRows, editSeries}
-use Rattle.meaning.specs.Bounds.{AllowedEdit, FirstAt, TooLarge}
+use Rattle.meaning.specs.Bounds.{AllowedEdit, FirstAt, TooLarge, Counted}
 use Rattle.theory.specs.Refusals.{number-lowest, number-none}
 use Rattle.theory.specs.Accepted.{inner-allowed}
 use Rattle.theory.specs.HalfSample.{half-sample, half-sample-near}
@@ -102,6 +103,9 @@ place c = c .answered .position
 
 abbrev pub count : EditCall → ℕ
 count c = c .answered .count
+
+abbrev pub bad : EditCall → ℕ
+bad c = c .answered .bad
 
 abbrev pub samplesLeft : EditCall → List ℤ
 samplesLeft c = now (c .left .1 .1 .1 .1 .0)
@@ -182,6 +186,12 @@ module _ (c : EditCall) where
 
   pub edit-place-other : number c ≢ 11 → number c ≢ 12 → place c ≡ 0
   edit-place-other = tested.edit-no-position _ _ _ _ _ _ _ _ answer-is
+
+  pub edit-bad : Counted (λ i. (i ≡ position c) × (bound c < natAbs (at (samples c) i))) (length (samples c)) (rows c) (editAnswer (c .answered))
+  edit-bad = tested.edit-bad _ _ _ _ _ _ _ _ answer-is
+
+  pub edit-bad-one : number c ≡ 11 → bad c ≡ 1
+  edit-bad-one = tested.edit-one _ _ _ _ _ _ _ _ answer-is
 
   pub edit-unchanged : number c ≢ 0 → (samplesLeft c ≡ samples c) × (resultsLeft c ≡ results c) × (workLeft c ≡ work c) × (count c ≡ 0)
   edit-unchanged h =
@@ -270,4 +280,4 @@ edit-one c d p m i v f r w =
     (ap answer e, ap (λ (o : outcomes.Edited). o .samples) e, ap (λ (o : outcomes.Edited). o .results) e, ap (λ (o : outcomes.Edited). o .work) e)
   where
     answer : outcomes.Edited → Edited
-    answer o = record { number = o .answer .number; position = o .answer .position; count = o .count }
+    answer o = record { number = o .answer .number; position = o .answer .position; count = o .count; bad = o .answer .bad }

@@ -34,9 +34,9 @@ use Rattle.theory.specs.Fill.{getD-map}
 use Rattle.theory.specs.AcceptedOutputs as tested
 use Rattle.plan.specs.declared.Answer as answered
 use Rattle.plan.specs.declared.Plan.{Plan}
-use Rattle.plan.specs.Structs.{stagesOf, answerOf}
+use Rattle.plan.specs.Structs.{stagesOf, answerOf, asAnswer}
 use Rattle.plan.specs.Contract.{Gives}
-use Rattle.promises.specs.Smoothings.{Exactly, back}
+use Rattle.promises.specs.Smoothings.{Exactly}
 
 abbrev pub each : {A : Type 0} → (ℤ → ℕ → A) → ℕ → List ℤ → List A
 each g d r = map (λ z. g z d) r
@@ -146,6 +146,6 @@ module _ {A : Type 0} (g : ℤ → ℕ → A) where
 
 pub output-same : {A : Type 0} {o p : Converted A} → o ≡ p → {a b : answered.Answer} {l m : List A} → Gives o (answerOf a) l → Gives p (answerOf b) m → (a ≡ b) × (l ≡ m)
 output-same {A} e g h = (
-  ap back (g .answer ∙ ap (λ (o : Converted A). o .answer) e ∙ sym (h .answer)),
+  ap asAnswer (g .answer ∙ ap (λ (o : Converted A). o .answer) e ∙ sym (h .answer)),
   g .cells ∙ ap (λ (o : Converted A). o .cells) e ∙ sym (h .cells),
 )

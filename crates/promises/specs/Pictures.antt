@@ -1,7 +1,7 @@
 -- Smoothing a picture: `picture::smooth_picture` by its own contract, for all inputs.
 --   PictureCall        any call, as its contract lets it end
 --   across, down, bound, width, height, samples, results, work   what it was given; stagesAcross and stagesDown are the plans'
---   number, place      what it answered
+--   number, place, bad what it answered
 --   resultsLeft, workLeft   what it left
 --   rows, Allowed      its rows of the table of numbers, and the bounds of document 01
 --   sample c x y       the sample at column x and row y of the picture that the extension has: mirrored at all four sides
@@ -9,6 +9,7 @@
 --   picture-lowest     the number is 0, or that of a row that applies, and then the lowest of those
 --   picture-done, picture-allowed   it is 0 exactly where no row applies, and exactly where the bounds hold
 --   picture-place-11, picture-place-other   at 11 the place is that of the first sample above the bound in row order, else 0
+--   picture-bad        at 11, and there alone, bad is not 0, and how many samples are above the bound; and 11 is given exactly where some are and no lower row applies
 --   picture-unchanged  a refused call leaves every cell as it was
 --   picture-left       one that is done leaves zeros in work
 --   picture-length     and as many results as there are cells
@@ -40,7 +41,7 @@ use Rattle.meaning.specs.Picture.{cell, pixel, picture}
 use Rattle.meaning.specs.Refusals as meant
 use Rattle.meaning.specs.Refusals.{Row, Applies, pictureOf, zeros}
 use Rattle.meaning.specs.Calls.{smoothRows, smoothPicture}
-use Rattle.meaning.specs.Bounds.{AllowedPicture, FirstAt}
+use Rattle.meaning.specs.Bounds.{AllowedPicture, FirstAt, Counted}
 use Rattle.theory.specs.HalfSample.{half-sample}
 use Rattle.theory.specs.Lists.{sized}
 use Rattle.theory.specs.Stages.{divisor-plan}
@@ -50,7 +51,7 @@ use Rattle.theory.specs.Picture.{length-picture, cell-picture, rows-first, colu
 use Rattle.theory.specs.AcceptedSmoothings as tested
 use Rattle.plan.specs.declared.Plan.{Plan}
 use Rattle.plan.specs.declared.Answer.{Answer}
-use Rattle.plan.specs.Structs.{stagesOf}
+use Rattle.plan.specs.Structs.{stagesOf, checkedAnswer}
 use Rattle.picture.proofs.smooth_picture.Reads as smooth-picture
 use Rattle.picture.proofs.smooth_picture.Kinds as kinds
 use Rattle.promises.specs.Smoothings as smooth
@@ -100,6 +101,9 @@ number c = c .answered .number
 abbrev pub place : PictureCall → ℕ
 place c = c .answered .position
 
+abbrev pub bad : PictureCall → ℕ
+bad c = c .answered .bad
+
 abbrev pub resultsLeft : PictureCall → List ℤ
 resultsLeft c = now (c .left .1 .1 .1 .1 .1 .1 .0)
 
@@ -139,6 +143,9 @@ module _ (c : PictureCall) where
 
   pub picture-place-other : number c ≢ 11 → place c ≡ 0
   picture-place-other = smooth.place-other _ _ _ _ _ _ (c .learnt)
+
+  pub picture-bad : Counted (λ i. bound c < natAbs (at (samples c) i)) (length (samples c)) (rows c) (checkedAnswer (c .answered))
+  picture-bad = smooth.counted _ _ _ _ _ _ (c .learnt)
 
   pub picture-unchanged : number c ≢ 0 → (resultsLeft c ≡ results c) × (workLeft c ≡ work c)
   picture-unchanged = smooth.unchanged _ _ _ _ _ _ (c .learnt)

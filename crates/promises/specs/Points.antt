@@ -1,7 +1,7 @@
 -- A point: `point::point` by its own contract, for all inputs.
 --   PointCall          any call, as its contract lets it end
 --   plan, bound, position, samples, work   what it was given; stages are the plan's
---   number, place, value   what it answered: document 01's number, position and value of each case of the enum
+--   number, place, bad, value   what it answered: document 01's number, position and value of each case of the enum
 --   workLeft           what it left
 --   rows, Allowed      its rows of the table of numbers, and the bounds of document 01
 --   Near c i           sample i is within reach of the position
@@ -12,6 +12,7 @@
 --   point-lowest       the number is 0, or that of a row that applies, and then the lowest of those
 --   point-done, point-allowed   it is 0 exactly where no row applies, and exactly where the bounds hold
 --   point-place-11, point-place-other   at 11 the place is the first sample within reach that is above the bound, else 0
+--   point-bad          at 11, and there alone, bad is not 0, and how many samples within reach are above the bound; and 11 is given exactly where some are and no lower row applies
 --   point-unchanged    a refused point leaves work as it was, and has the value plus zero
 --   point-left         one that is done leaves zeros in work
 --   point-value        and its value is the result over the divisor
@@ -20,7 +21,7 @@
 --   point-zero         where the result is 0 the value is plus zero
 --   point-fresh        where a fresh smoothing of the samples is stored, after edits too, the value is its result at the position over the divisor
 --   point-smoothed     so it is that of the result which a call of smoothing leaves there, under the same plan, on the same samples
---   point-local        under one plan, bound, position and length of work, series of equal length that agree within reach get the same answer, refusals included, whatever work held
+--   point-local        under one plan, bound, position and length of work, series of equal length that agree within reach get the same answer, refusals and the number of bad samples included, whatever work held
 --   point-one          two outcomes that the contract allows are the same
 use Prim.Native.Nat.{ℕ, _+_, _*_, _^_, _≤_, _<_}
 use mathlib.Core.Path.{_≡_, refl, sym, ap, ap₂, _∙_, subst}
@@ -48,7 +49,7 @@ use Rattle.meaning.specs.Refusals.{Row, firstOf, Applies, zeros}
 use Rattle.meaning.specs.Values.{ratio, plusZero}
 use Rattle.meaning.specs.Calls as outcomes
 use Rattle.meaning.specs.Calls.{pointRows}
-use Rattle.meaning.specs.Bounds.{AcceptedPlan, AllowedPoint, FirstAt}
+use Rattle.meaning.specs.Bounds.{AcceptedPlan, AllowedPoint, FirstAt, Counted}
 use Rattle.theory.specs.Refusals.{done-off, off-done, number-lowest, number-none, ifDone-done, ifDone-refused}
 use Rattle.theory.specs.Stages.{divisor-plan}
 use Rattle.theory.specs.Passes.{at-results}
@@ -101,6 +102,9 @@ number c = pointAnswer (c .answered) .number
 abbrev pub place : PointCall → ℕ
 place c = pointAnswer (c .answered) .position
 
+abbrev pub bad : PointCall → ℕ
+bad c = pointAnswer (c .answered) .bad
+
 abbrev pub value : PointCall → Float
 value c = pointValue (c .answered)
 
@@ -123,12 +127,12 @@ abbrev pub Whole : ℤ → Float → Type 0
 Whole z x = HasValue x (ltZ z (pos 0)) (natAbs z) 1
 
 -- ---- one call
-not-both : {x : Float} {n i : ℕ} → Value x ≡ Refused n i → ⊥
+not-both : {x : Float} {n i k : ℕ} → Value x ≡ Refused n i k → ⊥
 not-both e = true≢false (ap valued e)
   where
     valued : Point → Bool
     valued (Value x) = true
-    valued (Refused n i) = false
+    valued (Refused n i k) = false
 
 abbrev outcome : PointCall → outcomes.Pointed
 outcome c = outcomes.point fold (stages c) (bound c) (position c) (samples c) (work c)
@@ -147,10 +151,10 @@ module _ (c : PointCall) where
   is-value : number c ≡ 0 → c .answered ≡ Value (value c)
   is-value e = let k = whole ∙ pointOf-done _ _ (sym number-is ∙ e) in k ∙ ap Value (sym (ap pointValue k))
 
-  is-refused : number c ≢ 0 → c .answered ≡ Refused (number c) (place c)
-  is-refused h = whole ∙ pointOf-refused _ _ (λ e. h (number-is ∙ e)) ∙ ap (λ (x : meant.Answer). Refused (x .number) (x .position)) (sym answer-is)
+  is-refused : number c ≢ 0 → c .answered ≡ Refused (number c) (place c) (bad c)
+  is-refused h = whole ∙ pointOf-refused _ _ (λ e. h (number-is ∙ e)) ∙ ap (λ (x : meant.Answer). Refused (x .number) (x .position) (x .bad)) (sym answer-is)
 
-  pub point-case : Exactly (number c ≡ 0) (c .answered ≡ Value (value c)) × Exactly (number c ≢ 0) (c .answered ≡ Refused (number c) (place c))
+  pub point-case : Exactly (number c ≡ 0) (c .answered ≡ Value (value c)) × Exactly (number c ≢ 0) (c .answered ≡ Refused (number c) (place c) (bad c))
   point-case = ((is-value, λ k. ap (λ (q : Point). pointAnswer q .number) k), (is-refused, λ k e. not-both (sym (is-value e) ∙ k)))
 
   pub point-lowest : (number c ≢ 0 → Applies (number c) (rows c)) × ((n : ℕ) → Applies n (rows c) → number c ≤ n)
@@ -167,6 +171,9 @@ module _ (c : PointCall) where
 
   pub point-place-other : number c ≢ 11 → place c ≡ 0
   point-place-other = tested.point-no-position _ _ _ _ _ answer-is
+
+  pub point-bad : Counted (λ i. Near c i × (bound c < natAbs (at (samples c) i))) (length (samples c)) (rows c) (pointAnswer (c .answered))
+  point-bad = tested.point-bad _ _ _ _ _ answer-is
 
   pub point-unchanged : number c ≢ 0 → (workLeft c ≡ work c) × (value c ≡ plusZero)
   unfolding outcomes.point

@@ -43,7 +43,7 @@ use Rattle.theory.specs.Refusals.{number-lowest, first-unplaced, done-off, off-
 use Rattle.theory.specs.Tests.{outside-no, no-outside, differs-no, no-differs}
 use Rattle.theory.specs.Lists.{at-listOf}
 use Rattle.theory.specs.Records.{length-recordOf, read-recordOf, samples-recordOf, stretch-recordOf, sampleAt-bytes, recordOf-read, read-recordable, read-number as number-either, read-refused as refused-read}
-use Rattle.plan.specs.Structs.{answerOf}
+use Rattle.plan.specs.Structs.{answerOf, asAnswer}
 use Rattle.record.specs.declared.Job.{Job}
 use Rattle.record.specs.Structs.{jobOf}
 use Rattle.reader.proofs.read_record.Reads as read-record
@@ -54,7 +54,6 @@ use Rattle.record.proofs.stretch.Reads as stretch-of
 use Rattle.record.proofs.stretch.Kinds as stretch-kinds
 use Rattle.record.proofs.sample.Reads as sample-of
 use Rattle.record.proofs.sample.Kinds as sample-kinds
-use Rattle.promises.specs.Smoothings.{back}
 
 -- ---- calls: any call of a function, as its contract lets it end
 pub record ReadCall : Type 1 where
@@ -304,4 +303,4 @@ sample-one c d s i = c .learnt ∙ ap (λ (l : List ℕ). sampleAt l (index c)) 
 pub write-one : (c d : WriteCall) → written c ≡ written d → room c ≡ room d → (c .answered ≡ d .answered) × (roomLeft c ≡ roomLeft d)
 write-one c d f o =
     let same = outcome-same f o in
-    (ap back (c .learnt .answer ∙ ap (λ (x : R.Written). x .answer) same ∙ sym (d .learnt .answer)), c .learnt .slice ∙ ap (λ (x : R.Written). x .slice) same ∙ sym (d .learnt .slice))
+    (ap asAnswer (c .learnt .answer ∙ ap (λ (x : R.Written). x .answer) same ∙ sym (d .learnt .answer)), c .learnt .slice ∙ ap (λ (x : R.Written). x .slice) same ∙ sym (d .learnt .slice))

@@ -1,13 +1,14 @@
 -- Smoothing a series: `series::smooth_series` by its own contract, for all inputs. That it ends is the language's.
 --   SeriesCall         any call, as its contract lets it end
 --   plan, bound, samples, results, work   what it was given; stages are the plan's
---   number, place      what it answered (place is the position answered)
+--   number, place, bad what it answered (place is the position answered)
 --   resultsLeft, workLeft   what it left
 --   rows, Allowed      its rows of the table of numbers, and the bounds of document 01
 --   Exactly            as of Smoothings
 --   lowest-number      demand 1: the number is 0, or that of a row that applies, and then the lowest of those
 --   done-exactly, done-allowed   it is 0 exactly where no row applies, and exactly where the bounds hold
 --   position-first, position-other   at 11 the place is that of the first sample above the bound, else 0
+--   bad-counted        at 11, and there alone, bad is not 0, and how many samples are above the bound; and 11 is given exactly where some are and no lower row applies
 --   refused-unchanged  demand 1: a refused call leaves every cell as it was
 --   done-results       demand 2: the results of a call that is done are the convolution of the extension with the K-fold kernel; done-whole says so of the whole list
 --   done-left          such a call leaves zeros in work
@@ -30,13 +31,13 @@ use Rattle.meaning.specs.Smoothing as smoothing
 use Rattle.meaning.specs.Refusals as meant
 use Rattle.meaning.specs.Refusals.{Row, Applies, seriesOf, zeros}
 use Rattle.meaning.specs.Calls.{smoothRows, smoothSeries}
-use Rattle.meaning.specs.Bounds.{AllowedSeries, FirstAt}
+use Rattle.meaning.specs.Bounds.{AllowedSeries, FirstAt, Counted}
 use Rattle.theory.specs.Convolution.{kernel-sum}
 use Rattle.theory.specs.Stages.{divisor-plan}
 use Rattle.theory.specs.Passes.{length-results, at-results}
 use Rattle.theory.specs.AcceptedSmoothings as tested
 use Rattle.plan.specs.declared.Plan.{Plan}
-use Rattle.plan.specs.Structs.{stagesOf}
+use Rattle.plan.specs.Structs.{stagesOf, checkedAnswer}
 use Rattle.series.proofs.smooth_series.Reads as smooth-series
 use Rattle.series.proofs.smooth_series.Kinds as kinds
 use Rattle.promises.specs.Smoothings as smooth
@@ -74,6 +75,9 @@ number c = c .answered .number
 abbrev pub place : SeriesCall → ℕ
 place c = c .answered .position
 
+abbrev pub bad : SeriesCall → ℕ
+bad c = c .answered .bad
+
 abbrev pub resultsLeft : SeriesCall → List ℤ
 resultsLeft c = now (c .left .1 .1 .1 .0)
 
@@ -105,6 +109,9 @@ module _ (c : SeriesCall) where
 
   pub position-other : number c ≢ 11 → place c ≡ 0
   position-other = smooth.place-other _ _ _ _ _ _ (c .learnt)
+
+  pub bad-counted : Counted (λ i. bound c < natAbs (at (samples c) i)) (length (samples c)) (rows c) (checkedAnswer (c .answered))
+  bad-counted = smooth.counted _ _ _ _ _ _ (c .learnt)
 
   pub refused-unchanged : number c ≢ 0 → (resultsLeft c ≡ results c) × (workLeft c ≡ work c)
   refused-unchanged = smooth.unchanged _ _ _ _ _ _ (c .learnt)

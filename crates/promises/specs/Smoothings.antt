@@ -1,9 +1,9 @@
 -- Smoothing of any shape, from what its contract says (`Gives`): what holds of a series and of a picture alike.
 --   Exactly A B      A where B, and B where A
---   back a           the code's answer that has number and position of a
 --   lowest           the number is 0, or that of a row that applies, and then the lowest of those
 --   done-exactly     it is 0 exactly where no row applies
 --   place-first, place-other   at 11 the place is that of the first sample above the bound, else 0
+--   counted          how many samples are above the bound, and that it is 11 exactly where some are and no lower row applies
 --   unchanged        a refused call leaves every cell as it was
 --   whole, left      one that is done leaves the results of the outcome, and zeros in work
 --   number-done      the number is 0 where that of the rows is, and done-number the other way
@@ -17,11 +17,11 @@ use lib.IntN.{ℤ, natAbs}
 use Rattle.meaning.specs.Extension.{at}
 use Rattle.meaning.specs.Refusals.{Answer, Row, firstOf, Applies, Shape, zeros}
 use Rattle.meaning.specs.Calls.{Smoothed, smoothRows, smoothed}
-use Rattle.meaning.specs.Bounds.{FirstAt}
+use Rattle.meaning.specs.Bounds.{FirstAt, Counted}
 use Rattle.theory.specs.Refusals.{number-lowest, number-none, ifDone-done, ifDone-refused}
-use Rattle.theory.specs.AcceptedSmoothings.{smooth-rising, smooth-numbered, smooth-position, smooth-no-position}
-use Rattle.plan.specs.declared.Answer as answered
-use Rattle.plan.specs.Structs.{answerOf}
+use Rattle.theory.specs.AcceptedSmoothings.{smooth-rising, smooth-numbered, smooth-position, smooth-no-position, smooth-bad}
+use Rattle.plan.specs.declared.Checked.{Checked}
+use Rattle.plan.specs.Structs.{checkedAnswer, asChecked}
 use Rattle.series.specs.Contract.{Gives}
 
 abbrev pub Exactly : Type 0 → Type 0 → Type 0
@@ -56,6 +56,9 @@ module _ (s : Shape) (M : ℕ) (new f r w : List ℤ) {a : Answer} {rl wl : List
   pub place-other : a .number ≢ 11 → a .position ≡ 0
   place-other = smooth-no-position s M f _ _ answer-is
 
+  pub counted : Counted (λ i. M < natAbs (at f i)) (length f) rows a
+  counted = smooth-bad s M f _ _ answer-is
+
   pub unchanged : a .number ≢ 0 → (rl ≡ r) × (wl ≡ w)
   unfolding smoothed
   unchanged n = (h .results ∙ ifDone-refused _ _ _ (λ e. n (number-done e)), h .work ∙ ifDone-refused _ _ _ (λ e. n (number-done e)))
@@ -69,12 +72,9 @@ module _ (s : Shape) (M : ℕ) (new f r w : List ℤ) {a : Answer} {rl wl : List
   left e = h .work ∙ ifDone-done _ _ _ (done-number e)
 
 -- ---- two calls
-abbrev pub back : Answer → answered.Answer
-back a = record { number = a .number; position = a .position }
-
-pub same : {o p : Smoothed} → o ≡ p → {a b : answered.Answer} {r s w x : List ℤ} → Gives o (answerOf a) r w → Gives p (answerOf b) s x → (a ≡ b) × (r ≡ s) × (w ≡ x)
+pub same : {o p : Smoothed} → o ≡ p → {a b : Checked} {r s w x : List ℤ} → Gives o (checkedAnswer a) r w → Gives p (checkedAnswer b) s x → (a ≡ b) × (r ≡ s) × (w ≡ x)
 same e g h = (
-  ap back (g .answer ∙ ap (λ (o : Smoothed). o .answer) e ∙ sym (h .answer)),
+  ap asChecked (g .answer ∙ ap (λ (o : Smoothed). o .answer) e ∙ sym (h .answer)),
   g .results ∙ ap (λ (o : Smoothed). o .results) e ∙ sym (h .results),
   g .work ∙ ap (λ (o : Smoothed). o .work) e ∙ sym (h .work),
 )

@@ -33,8 +33,8 @@ use Rattle.meaning.specs.Kernel.{tap, passAt, kernel, width, reach, tapSum, div
 use Rattle.meaning.specs.Smoothing as smoothing
 use Rattle.meaning.specs.Smoothing.{listOf, convolved, weight, near}
 use Rattle.meaning.specs.Refusals as meant
-use Rattle.meaning.specs.Refusals.{firstOf, firstWhere, rowAt, some, planRows, sizeRows, Shape, seriesOf, pictureOf, ifDone}
-use Rattle.meaning.specs.Calls.{smoothRows, gained, editRows, countWhere, changed, Edited, editSeries, pointRows, point}
+use Rattle.meaning.specs.Refusals.{firstOf, firstWhere, countWhere, rowAt, some, planRows, sizeRows, Shape, seriesOf, pictureOf, ifDone}
+use Rattle.meaning.specs.Calls.{smoothRows, gained, editRows, changed, Edited, editSeries, pointRows, point}
 use Rattle.meaning.specs.Values.{takes, doubleRows, doublesIn, outputRows, Summary, summary}
 use Rattle.meaning.specs.Bounds.{AllowedSigma}
 use Rattle.meaning.specs.Encoding.{bytes, number}

@@ -14,9 +14,9 @@ use borrow.Author.Tests.{not-true, not-false}
 use Rattle.meaning.specs.Limits.{least, maxBound, maxLength}
 use Rattle.meaning.specs.Refusals.{Answer, Row, _when_, firstOf, rowAt, outside, differs, sizeRows}
 use Rattle.meaning.specs.Values.{takes, doubleRows}
-use Rattle.meaning.specs.Bounds.{WholeDouble, AllowedDoubles, FirstAt}
+use Rattle.meaning.specs.Bounds.{WholeDouble, AllowedDoubles, FirstAt, Counted}
 use Rattle.theory.specs.Refusals.{done, Numbered, Rising, done-off, off-done, off-append, append-off}
-use Rattle.theory.specs.BadSamples.{Counted, none-behind, bad-counted}
+use Rattle.theory.specs.BadSamples.{none-behind, bad-counted}
 use Rattle.theory.specs.Places.{rowAt-off, rowAt-none, place-here, place-other, first-map}
 use Rattle.theory.specs.Tests.{outside-no, no-outside, differs-no, no-differs}
 use Rattle.theory.specs.Doubles.{takes-whole, whole-takes}

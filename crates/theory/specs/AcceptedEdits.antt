@@ -16,14 +16,14 @@ use Rattle.meaning.specs.Kernel.{Stage, reach, divisor}
 use Rattle.meaning.specs.Smoothing.{results, weight, apart, near}
 use Rattle.meaning.specs.Refusals.{Answer, Row, _when_, firstOf, rowAt, differs, above, planRows, sizeRows}
 use Rattle.meaning.specs.Calls.{sampleRow, editRoom, gained, editRows}
-use Rattle.meaning.specs.Bounds.{AllowedLength, AllowedEdit, FirstAt, TooLarge}
+use Rattle.meaning.specs.Bounds.{AllowedLength, AllowedEdit, FirstAt, TooLarge, Counted}
 use Rattle.theory.specs.Folding.{Nearness}
 use Rattle.theory.specs.Lists.{Sized}
 use Rattle.theory.specs.Local.{near-yes, near-true}
 use Rattle.theory.specs.Refusals.{done, Off, Numbered, Rising, Unplaced, done-off, off-done, first-parts, off-append, append-off}
 use Rattle.theory.specs.Counts.{count-at}
 use Rattle.theory.specs.Places.{OfRow, rowAt-off, rowAt-none, rowAt-answer, first-map}
-use Rattle.theory.specs.BadSamples.{Counted, none-behind, bad-counted}
+use Rattle.theory.specs.BadSamples.{none-behind, bad-counted}
 use Rattle.theory.specs.Tests.{or-no, no-or, or-yes, yes-or, and-yes, yes-and, and-no, no-and, and-when, differs-no, no-differs}
 use Rattle.theory.specs.Edits.{resultRow, gained-near, fresh-passes}
 use Rattle.theory.specs.Placed.{placedRows, off-placed, placed-off}

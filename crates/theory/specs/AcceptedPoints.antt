@@ -14,11 +14,11 @@ use Rattle.meaning.specs.Smoothing.{result, apart, near}
 use Rattle.meaning.specs.Refusals.{Answer, Row, firstOf, rowAt, differs, above, planRows, sizeRows}
 use Rattle.meaning.specs.Values.{ratio, plusZero}
 use Rattle.meaning.specs.Calls.{sampleRow, editRoom, pointRows, point}
-use Rattle.meaning.specs.Bounds.{AllowedPoint, FirstAt}
+use Rattle.meaning.specs.Bounds.{AllowedPoint, FirstAt, Counted}
 use Rattle.theory.specs.Folding.{Nearness}
 use Rattle.theory.specs.Local.{near-yes, near-true, result-local}
 use Rattle.theory.specs.Refusals.{done, Numbered, Rising, Unplaced, done-off, off-done, off-append, append-off, ifDone-ext}
-use Rattle.theory.specs.BadSamples.{Counted, none-behind, bad-counted}
+use Rattle.theory.specs.BadSamples.{none-behind, bad-counted}
 use Rattle.theory.specs.Places.{rowAt-ext, rowAt-off, rowAt-none, place-here, place-other, first-map}
 use Rattle.theory.specs.Tests.{and-yes, yes-and, and-no, no-and, and-when, differs-no, no-differs}
 use Rattle.theory.specs.Placed.{placedRows, off-placed, placed-off}

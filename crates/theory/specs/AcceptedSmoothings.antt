@@ -13,9 +13,9 @@ use Rattle.meaning.specs.Extension.{at}
 use Rattle.meaning.specs.Kernel.{Stage}
 use Rattle.meaning.specs.Refusals.{Answer, Row, firstOf, rowAt, differs, above, Shape, seriesOf, pictureOf, planRows, sizeRows, commonRows}
 use Rattle.meaning.specs.Calls.{smoothRows}
-use Rattle.meaning.specs.Bounds.{AllowedSeries, AllowedPicture, FirstAt}
+use Rattle.meaning.specs.Bounds.{AllowedSeries, AllowedPicture, FirstAt, Counted}
 use Rattle.theory.specs.Refusals.{done, Off, Numbered, Rising, Unplaced, done-off, off-done}
-use Rattle.theory.specs.BadSamples.{Counted, none-behind, bad-counted}
+use Rattle.theory.specs.BadSamples.{none-behind, bad-counted}
 use Rattle.theory.specs.ShapeRows.{shape-off, off-shape, shape-position, shape-no-position}
 use Rattle.theory.specs.Tests.{or-no, no-or, differs-no, no-differs}
 use Rattle.theory.specs.Accepted.{length-allowed, allowed-length, sides-allowed, allowed-sides}

@@ -1,5 +1,4 @@
 -- What an answer says of the samples that row 11 tests.
---   Counted P N rows a   of N samples, where P says that one is tested and bad: how many are bad by the answer a of the rows, and when it is 11
 -- Laws: none-behind (no row stands behind row 11); bad-counted (of rows with no position, then row 11, then others).
 use mathlib.Core.Path.{_≡_, refl, sym, ap, _∙_}
 use mathlib.Core.Logic.{_⊎_, inl, inr, ⊎-elim}
@@ -9,16 +8,10 @@ use mathlib.Mathlib.Data.Bool.Basic.{eq-true-of-not-eq-false}
 use Prim.Native.Nat.{ℕ, _<_}
 use native.Mathlib.Omega.{arith}
 use Rattle.meaning.specs.Refusals.{Answer, Row, firstOf, Applies, here, rowAt}
-use Rattle.meaning.specs.Bounds.{HowMany}
+use Rattle.meaning.specs.Bounds.{HowMany, Counted}
 use Rattle.theory.specs.Refusals.{Numbered, Rising, Unplaced, first-parts, number-lowest, number-exactly, applies-append}
 use Rattle.theory.specs.Counts.{how-many, how-many-none, how-many-some}
 use Rattle.theory.specs.Places.{OfRow, rowAt-none, rowAt-answer}
-
-pub record Counted (P : ℕ → Type 0) (N : ℕ) (rows : List Row) (a : Answer) : Type 0 where
-  pub count : a .number ≡ 11 → HowMany P N (a .bad)
-  pub other : (a .number ≡ 11 → ⊥) → a .bad ≡ 0
-  pub some : a .number ≡ 11 → a .bad ≡ 0 → ⊥
-  pub eleven : {k : ℕ} → HowMany P N k → (k ≡ 0 → ⊥) → ((n : ℕ) → n < 11 → Applies n rows → ⊥) → a .number ≡ 11
 
 pub none-behind : {a : Answer} → a ≡ firstOf [] → (a .number ≡ 11 → ⊥) × (a .bad ≡ 0)
 unfolding firstOf
@@ -43,10 +36,17 @@ module _ (front rest : List Row) (u : Unplaced 11 front) (N : ℕ) (t : ℕ → 
     count-11 : a .number ≡ 11 → HowMany P N (a .bad)
     count-11 n = rw (of-11 n .bad) (how-many N t to from)
 
+    some-11 : a .number ≡ 11 → {k : ℕ} → HowMany P N k → k ≡ 0 → ⊥
+    some-11 n h z = let f = of-11 n .first in let l = how-many-some N _ h (f .within) (to _ (f .within) (f .here)) in omega arith
+
+    number : a .number ≡ firstOf rows .number
+    number = ap (λ (x : Answer). x .number) e
+
     pub bad-counted : Rising rows → Numbered rows → Counted P N rows a
     bad-counted r m = record {
       count = count-11;
       other = λ n. ⊎-elim (λ p. absurd (n (p .number))) (λ p. p .1) either;
-      some = λ n z. let f = of-11 n .first in let l = how-many-some N _ (count-11 n) (f .within) (to _ (f .within) (f .here)) in omega arith;
-      eleven = λ h k lower. number-exactly rows (ap (λ (x : Answer). x .number) e) r m (applies-11 h k) lower;
+      some = λ n. some-11 n (count-11 n);
+      given = λ n h. (some-11 n h, λ j l on. let m = number-lowest rows number r .1 j on in omega arith);
+      exactly = λ h k lower. number-exactly rows number r m (applies-11 h k) lower;
     }
