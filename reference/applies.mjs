@@ -46,10 +46,13 @@ function sampleTested(args, n) {
   return 'position' in args ? near(args, n) : true;
 }
 
-function samplesWrong(args) {
+// How many of the samples that the call tests are not acceptable.
+export function samplesWrong(args) {
   const { bound, doubles, samples } = args;
-  if (doubles) return doubles.some((double) => !(Number.isInteger(double) && Math.abs(double) <= Number(bound)));
-  return samples.some((sample, n) => sampleTested(args, n) && size(BigInt(sample)) > bound);
+  const wrong = doubles
+    ? (double) => !(Number.isInteger(double) && Math.abs(double) <= Number(bound))
+    : (sample, n) => sampleTested(args, n) && size(BigInt(sample)) > bound;
+  return (doubles ?? samples).filter(wrong).length;
 }
 
 // Of an edit the results before it.
@@ -69,7 +72,7 @@ const ROWS = {
   8: slicesWrong,
   9: (args) => args.position >= lengthOf(args),
   10: ({ bound, value }) => size(value) > bound,
-  11: samplesWrong,
+  11: (args) => samplesWrong(args) > 0,
   12: resultsWrong,
   13: ({ sigma }) => outside(sigma, 1n, MOST_SIGMA),
 };

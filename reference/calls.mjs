@@ -9,10 +9,10 @@ import {
   divisorOf, kernelOf, pictureResults, planFor, reachOf, resultAt, seriesResults, weightAt,
 } from './smoothing.mjs';
 
-const DONE = { number: 0n, position: 0n };
+const DONE = { number: 0n, position: 0n, bad: 0n };
 
-function refuse(number, position = 0) {
-  return { number: BigInt(number), position: BigInt(position) };
+function refuse(number, position = 0, bad = 0) {
+  return { number: BigInt(number), position: BigInt(position), bad: BigInt(bad) };
 }
 
 function refuseIf(applies, number) {
@@ -76,8 +76,17 @@ function firstRefused(number, from, to, offends) {
   return index === null ? null : refuse(number, index);
 }
 
+// The first bad one among those tested, and how many there are.
+function badRefused(from, to, bad) {
+  const found = [];
+  for (let n = from; n <= to; n++) {
+    if (bad(n)) found.push(n);
+  }
+  return found.length === 0 ? null : refuse(11, found[0], found.length);
+}
+
 function samplesRefused(samples, bound, from = 0, to = samples.length - 1) {
-  return firstRefused(11, from, to, (n) => size(BigInt(samples[n])) > bound);
+  return badRefused(from, to, (n) => size(BigInt(samples[n])) > bound);
 }
 
 function resultsRefused(results, most) {
@@ -207,7 +216,7 @@ export function doublesIn({ bound, doubles, samples }) {
   const refused = boundRefused(bound)
     ?? lengthRefused(doubles.length)
     ?? slicesRefused(doubles.length, samples)
-    ?? firstRefused(11, 0, doubles.length - 1, (n) => !acceptable(doubles[n], bound));
+    ?? badRefused(0, doubles.length - 1, (n) => !acceptable(doubles[n], bound));
   if (refused) return { ...refused, samples };
   return { ...DONE, samples: Int32Array.from(doubles) };
 }

@@ -91,6 +91,8 @@ const VALUES = [
   editCase('old sample bad, first', THREE, 10, [0, 4], [11, 0, 0], [0, 0, 0]),
   editCase('old sample bad, last', THREE, 10, [2, 4], [0, 0, -11], [0, 0, 0]),
   editCase('old sample bad, and others', THREE, 10, [1, 4], [99, 11, -99], [0, 0, 0]),
+  editCase('all samples bad', THREE, 10, [1, 4], [11, -11, 11], [0, 0, 0]),
+  editCase('other samples bad, and a result', THREE, 10, [1, 4], [11, 0, -11], [0, 31, 0]),
   editCase('old sample bad as the new value is', THREE, 10, [1, 11], [0, 11, 0], [0, 0, 0]),
   editCase('all samples bad but the old one', THREE, 10, [1, 4], [LEAST_I32, -10, MOST_BOUND], [0, 0, 0]),
   editCase('from the bound to minus the bound', THREE, 10, [1, -10], [0, 10, 0], [0, 0, 0]),

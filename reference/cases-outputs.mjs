@@ -1,7 +1,7 @@
 // Cases of calls 6 to 12: doubles in, and whole numbers, doubles and summary of a series and of a picture.
 import { divisorOf } from './smoothing.mjs';
 import {
-  EIGHT, EXACT, EXACT_BOUND, FIVE, LARGE, LARGE_BOUND, LARGE_MOST, LARGEST_I64, LEAST_I32, LEAST_I64,
+  BAD_SAMPLES, EIGHT, EXACT, EXACT_BOUND, FIVE, LARGE, LARGE_BOUND, LARGE_MOST, LARGEST_I64, LEAST_I32, LEAST_I64,
   MOST_BOUND, ONE, SEVENS, THREE, TWO,
   anyBound, anyPlan, anySamples, chance, filled, junk, largestBound, pick, plan, times,
 } from './inputs.mjs';
@@ -33,6 +33,11 @@ const DOUBLES_EDGES = [
   ...[1, -1, 2, 0.1].map((each) => doublesInCase('about bound 1', 1, [each])),
   doublesInCase('mixed, accepted', 1000, [0, -0, 1000, -1000, 1, -1, 512, 999]),
   doublesInCase('mixed, the first bad one counts', 1000, [0, 1, 1000.5, Infinity, QUIET_NAN]),
+  ...BAD_SAMPLES.map(([note, doubles]) => doublesInCase(note, 9, doubles)),
+  doublesInCase('all bad, each in its way', 9, [QUIET_NAN, -Infinity, 0.5, 10, 5e-324, NEGATIVE_NAN, 2 ** 63]),
+  doublesInCase('every other bad', 9, [0.5, 1, -0.5, -0, Infinity, 9, SIGNALLING_NAN]),
+  doublesInCase('65,536 doubles, all bad', 9, filled(65_536, 9.5)),
+  doublesInCase('all bad, and samples short', 9, [0.5, 10], [7]),
   doublesInCase('bad at the end', 1000, [0, 1, 2, 3, 1001]),
   doublesInCase('bad at the start', 1000, [QUIET_NAN, 1, 2, 3]),
   doublesInCase('samples at entry stay when refused', 1, [2, 0], [LEAST_I32, MOST_BOUND]),

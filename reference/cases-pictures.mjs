@@ -1,7 +1,7 @@
 // Cases of call 2: smoothing a picture.
 import { divisorOf } from './smoothing.mjs';
 import {
-  EIGHT, EXACT, EXACT_BOUND, FIVE, LARGEST_I64, LEAST_I64, MOST_BOUND, ONE, THREE,
+  BAD_SAMPLES, EIGHT, EXACT, EXACT_BOUND, FIVE, LARGEST_I64, LEAST_I64, MOST_BOUND, ONE, THREE,
   anyBound, anyPatches, anyPlan, anySamples, chance, filled, junk, plan, times,
 } from './inputs.mjs';
 import { PICTURE_LIMITS, SAMPLE_FAULTS, faultCases, lengthFaults } from './faults.mjs';
@@ -52,6 +52,14 @@ const PICTURE_EDGES = [
   pictureCase('divisor across alone too large', [plan(0, 99, 0, 8), ONE], 1, [1, 1], [1]),
   pictureCase('divisor down alone too large', [ONE, plan(0, 99, 0, 8)], 1, [1, 1], [1]),
   pictureCase('product 2^64', [plan(0, 12, 10, 4), plan(0, 12, 10, 4)], 2 ** 24, [1, 2], [1, -1]),
+];
+
+const PICTURE_BAD = [
+  ...BAD_SAMPLES.map(([note, samples]) => pictureCase(note, [FIVE, THREE], 9, [2, 2], samples)),
+  pictureCase('one column bad', [FIVE, THREE], 9, [3, 2], [1, 10, 2, 3, -10, 4]),
+  pictureCase('one row bad', [FIVE, THREE], 9, [3, 2], [1, 2, 3, 10, -10, 11]),
+  pictureCase('256 by 256, all bad', [FIVE, THREE], 9, [256, 256], filled(65_536, -10)),
+  pictureCase('all bad, and a side', [FIVE, THREE], 9, [2, 4097], filled(8_194, 10)),
 ];
 
 // One row and one column of every short length.
@@ -115,7 +123,7 @@ function smoothPictureCases() {
     });
   });
   return [
-    ...PICTURE_EDGES, ...PICTURE_LINES, ...PICTURE_WINDOWS, ...pictureFaults(), ...chosen, ...largePictures(),
+    ...PICTURE_EDGES, ...PICTURE_BAD, ...PICTURE_LINES, ...PICTURE_WINDOWS, ...pictureFaults(), ...chosen, ...largePictures(),
   ];
 }
 

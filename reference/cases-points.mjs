@@ -95,6 +95,21 @@ const FIRST_REFUSED = [
   pointCase('bad before the first within reach', EIGHT, 9, 3, [10, 1, 2, 3]),
 ];
 
+// Those within reach are counted alone, of a point in the middle of nine and at either end.
+const COUNTED = [
+  pointCase('all within reach bad, none past it', EIGHT, 9, 4, [0, 0, 10, -10, LEAST_I32, 10, -10, 0, 0]),
+  pointCase('all bad', EIGHT, 9, 4, filled(9, 10)),
+  pointCase('all bad but the first and the last within reach', EIGHT, 9, 4, [10, 10, 9, 10, 10, 10, -9, 10, 10]),
+  pointCase('all bad but the first and the last past reach', EIGHT, 9, 4, [10, 9, -10, 10, 10, 10, -10, 9, 10]),
+  pointCase('all bad, at the first', EIGHT, 9, 0, filled(9, -10)),
+  pointCase('all bad, at the second', EIGHT, 9, 1, filled(9, -10)),
+  pointCase('all bad, at the last', EIGHT, 9, 8, filled(9, -10)),
+  pointCase('all bad, reach above length', plan(5, 2, 1, 1), 9, 2, filled(4, 10)),
+  pointCase('all bad, reach 0', plan(0, 9, 0, 8), 9, 2, filled(5, 10)),
+  pointCase('all bad, and the position', EIGHT, 9, 9, filled(9, 10)),
+  pointCase('8,195 samples, all bad', WIDEST, WIDEST_BOUND, 4_097, filled(8_195, 32)),
+];
+
 // About the edges of the reach.
 const FAR = [
   pointCase('4,096 samples, all within reach', WIDEST, WIDEST_BOUND, 0, filled(4_096, 3).with(4_095, -31)),
@@ -146,7 +161,7 @@ function chosenPoint(below, n) {
 function pointCases() {
   const below = chance(104);
   return [
-    ...POINT_EDGES, ...EVERY_POSITION, ...ONE_SAMPLE, ...QUOTIENTS, ...ALIKE, ...FIRST_REFUSED, ...FAR, ...WIDE,
+    ...POINT_EDGES, ...EVERY_POSITION, ...ONE_SAMPLE, ...QUOTIENTS, ...ALIKE, ...FIRST_REFUSED, ...COUNTED, ...FAR, ...WIDE,
     ...pointFaults(), ...times(40, (n) => chosenPoint(below, n)), ...longPoints(),
   ];
 }

@@ -1,6 +1,6 @@
 // Cases of call 1: smoothing a series.
 import {
-  EIGHT, LARGE, LARGE_BOUND, LARGEST_I64, LEAST_I32, LEAST_I64, LONG_SERIES, MOST_BOUND, ONE, THREE, WIDE_LIMITS, WIDEST,
+  BAD_SAMPLES, EIGHT, LARGE, LARGE_BOUND, LARGEST_I64, LEAST_I32, LEAST_I64, LONG_SERIES, MOST_BOUND, ONE, THREE, WIDE_LIMITS, WIDEST,
   anyBound, anySamples, anySeries, chance, filled, junk, largestBound, plan, times,
 } from './inputs.mjs';
 import { EMPTY_SERIES, SAMPLE_FAULTS, SERIES_LIMITS, faultCases, lengthFaults } from './faults.mjs';
@@ -79,6 +79,15 @@ const SERIES_EDGES = [
   seriesCase('word 2^31 as a sample', THREE, MOST_BOUND, [1, 2 ** 31]),
 ];
 
+const SERIES_BAD = [
+  ...BAD_SAMPLES.map(([note, samples]) => seriesCase(note, THREE, 9, samples)),
+  seriesCase('one sample, bad', THREE, 9, [10]),
+  seriesCase('65,536 samples, all bad', THREE, 9, [...filled(30_000, 10), ...filled(35_536, LEAST_I32)]),
+  seriesCase('65,536 samples, both ends bad', THREE, 9, filled(65_536, 9).with(0, 10).with(65_535, -10)),
+  seriesCase('all bad, and the plan', plan(1, 2, 2, 1), 9, [10, 10]),
+  seriesCase('all bad, and work short', THREE, 9, [10, 10], { work: [5] }),
+];
+
 const SERIES_WIDE = WIDE_LIMITS.map((each) => seriesCase(each.note, each.plan, each.bound, [1, -1]));
 
 // Windows below, about and above the period of the extension.
@@ -102,7 +111,7 @@ function smoothSeriesCases() {
     return seriesCase('chosen', each, bound, samples, { results: junk(below, length), work: junk(below, length) });
   });
   return [
-    ...SERIES_EXAMPLES, ...PRODUCT_EDGES, ...SERIES_EDGES, ...SERIES_WIDE, ...SERIES_WINDOWS,
+    ...SERIES_EXAMPLES, ...PRODUCT_EDGES, ...SERIES_EDGES, ...SERIES_BAD, ...SERIES_WIDE, ...SERIES_WINDOWS,
     ...seriesFaults(), ...chosen, ...longSeriesCases(),
   ];
 }

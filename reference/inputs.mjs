@@ -130,6 +130,18 @@ export function anySeries(below, n) {
   return { plan: chosen, bound, samples: anySamples(below, length, bound), length };
 }
 
+// Four samples, of which these many are bad under bound 9.
+export const BAD_SAMPLES = [
+  ['none bad, three at the bound', [9, -9, 0, 9]],
+  ['one bad, the first', [10, 9, -9, 0]],
+  ['one bad, the last', [9, -9, 0, -10]],
+  ['two bad, the outer ones', [10, 0, 9, -10]],
+  ['two bad, the inner ones', [9, -10, 10, -9]],
+  ['all bad but the first', [9, LEAST_I32, 10, MOST_BOUND]],
+  ['all bad but the last', [10, LEAST_I32, MOST_BOUND, -9]],
+  ['all bad', [10, -10, LEAST_I32, MOST_BOUND]],
+];
+
 // What a slice happens to hold before a call.
 export function junk(below, length) {
   return times(length, () => pick(below, [below(19) - 9, below(19) - 9, below(1999) - 999]));

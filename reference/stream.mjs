@@ -17,21 +17,21 @@ const FIELDS = { radius: 'u16', inner: 'u8', edge: 'u8', passes: 'u8', bound: 'u
 export const CALLS = {
   1: {
     name: 'smooth-series', run: calls.smoothSeries,
-    takes: { ...SERIES, ...SLICES }, prints: ['number', 'position', 'results', 'work'],
+    takes: { ...SERIES, ...SLICES }, prints: ['number', 'position', 'bad', 'results', 'work'],
   },
   2: {
     name: 'smooth-picture', run: calls.smoothPicture,
-    takes: { ...PICTURE, ...SLICES }, prints: ['number', 'position', 'results', 'work'],
+    takes: { ...PICTURE, ...SLICES }, prints: ['number', 'position', 'bad', 'results', 'work'],
   },
   3: {
     name: 'edit', run: calls.edit,
     takes: { ...SERIES, position: 'u64', value: 'i64', ...SLICES },
-    prints: ['number', 'position', 'count', 'samples', 'results', 'work'],
+    prints: ['number', 'position', 'count', 'bad', 'samples', 'results', 'work'],
   },
   4: {
     name: 'point', run: calls.point,
     takes: { ...SERIES, position: 'u64', samples: 'i32s', work: 'i64s' },
-    prints: ['number', 'position', 'value', 'work'],
+    prints: ['number', 'position', 'bad', 'value', 'work'],
   },
   5: {
     name: 'planner', run: calls.planner,
@@ -39,7 +39,7 @@ export const CALLS = {
   },
   6: {
     name: 'doubles-in', run: calls.doublesIn,
-    takes: { bound: 'u64', doubles: 'f64s', samples: 'i32s' }, prints: ['number', 'position', 'samples'],
+    takes: { bound: 'u64', doubles: 'f64s', samples: 'i32s' }, prints: ['number', 'position', 'bad', 'samples'],
   },
   7: {
     name: 'whole-series', run: calls.wholeSeries,

@@ -1,9 +1,15 @@
 // The cases against what their notes say.
-import { applies } from './applies.mjs';
+import { applies, samplesWrong } from './applies.mjs';
 import { casesOf } from './cases.mjs';
 import { seriesResults } from './smoothing.mjs';
 import { CALLS, decoded } from './stream.mjs';
 import { holds, same, text } from './testing.mjs';
+
+// The calls that test samples, and which cases of bad ones they have. An edit tests one.
+const MANY = [true, true, true, true];
+const BAD_MET = {
+  'smooth-series': MANY, 'smooth-picture': MANY, edit: [true, true, false, false], point: MANY, 'doubles-in': MANY,
+};
 
 // A case `A before B` is answered A, and B applies to it as well.
 function overlapFacts(name, cases) {
@@ -14,6 +20,19 @@ function overlapFacts(name, cases) {
     same(`${name}, ${note}`, outcome.number, low);
     holds(`${name}, ${note}: both apply`, applies(Number(low), args) && applies(Number(high), args));
   }
+}
+
+// The number of bad samples is that of those tested at 11, else 0. There are cases of none, one, several and all bad.
+function badFacts(name, cases) {
+  const met = new Set();
+  for (const { note, words } of cases) {
+    const { args, outcome } = decoded(words);
+    const wanted = outcome.number === 11n ? samplesWrong(args) : 0;
+    same(`${name}, ${note}: bad`, outcome.bad, wanted);
+    met.add(wanted > 1 ? 'several' : wanted);
+    if (wanted > 1 && wanted === (args.doubles ?? args.samples).length) met.add('all');
+  }
+  same(`${name}: cases of bad samples`, [0, 1, 'several', 'all'].map((each) => met.has(each)), BAD_MET[name]);
 }
 
 // What the seed chose may by chance be a case that is there already.
@@ -47,8 +66,8 @@ function alikeFacts(cases) {
   for (const { note, words } of cases) {
     const [, within] = note.match(/^(.*), \S+ past it$/) ?? [];
     if (within === undefined) continue;
-    const { number, position, value } = decoded(words).outcome;
-    const answer = [number, position, value];
+    const { number, position, bad, value } = decoded(words).outcome;
+    const answer = [number, position, bad, value];
     same(`point, ${note}`, answer, answers.get(within) ?? answer);
     answers.set(within, answer);
   }
@@ -60,6 +79,7 @@ export function testCases() {
     const cases = casesOf(call);
     overlapFacts(name, cases);
     differentFacts(name, cases);
+    if (name in BAD_MET) badFacts(name, cases);
   }
   chainFacts(casesOf(3));
   alikeFacts(casesOf(4));

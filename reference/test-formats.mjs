@@ -27,23 +27,35 @@ function recordFacts() {
 function streamFacts() {
   const args = { plan: plan(1, 2, 1, 1), bound: 8n, samples: [8, 0, 0], results: [1, -1, 2], work: [3, 3, 3] };
   const words = callWords(1, args);
-  same('line', linesFor(words), ['0 0 32 24 8 0 0 0']);
-  same('refused line', linesFor(callWords(1, { ...args, bound: 7n })), ['11 0 1 -1 2 3 3 3']);
-  same('bytes', linesFor(wordsOfBytes(bytesOfWords([...words, ...words]))), new Array(2).fill('0 0 32 24 8 0 0 0'));
+  same('line', linesFor(words), ['0 0 0 32 24 8 0 0 0']);
+  same('refused line', linesFor(callWords(1, { ...args, bound: 7n })), ['11 0 1 1 -1 2 3 3 3']);
+  same('line of a refused picture', linesFor(callWords(2, {
+    ...args, across: args.plan, down: args.plan, bound: 1n, width: 3n, height: 1n, samples: [1, -2, 2],
+  })), ['11 1 2 1 -1 2 3 3 3']);
+  same('line of a refused edit', linesFor(callWords(3, {
+    ...args, bound: 1n, position: 1n, value: 0n, samples: [2, 2, 2], work: [3, 3, 3, 3, 3, 3],
+  })), ['11 1 0 1 2 2 2 1 -1 2 3 3 3 3 3 3']);
+  same('line of a refused point', linesFor(callWords(4, {
+    ...args, bound: 1n, position: 1n, samples: [2, 0, 2], work: [3, 3, 3, 3, 3, 3],
+  })), ['11 0 2 0 3 3 3 3 3 3']);
+  same('line of refused doubles', linesFor(callWords(6, {
+    bound: 1n, doubles: [0.5, 1, 2].map(bitsOf), samples: [7, 8, 9],
+  })), ['11 0 2 7 8 9']);
+  same('bytes', linesFor(wordsOfBytes(bytesOfWords([...words, ...words]))), new Array(2).fill('0 0 0 32 24 8 0 0 0'));
   same('line of a plan', linesFor(callWords(100, { plan: plan(1, 2, 1, 8) })), ['16777216 16']);
   same('line of a stretch', linesFor(callWords(101, { record: [9, 255, 255, 255, 254, 9], start: 1, size: 5, index: 0 })),
     ['5 -2 255 255 255 254 9']);
   same('first bytes', bytesOfWords([-2n]), [255, 255, 255, 255, 255, 255, 255, 254]);
-  same('slice too long', linesFor([...words, 13n, 131_073n]), ['0 0 32 24 8 0 0 0', 'stop']);
+  same('slice too long', linesFor([...words, 13n, 131_073n]), ['0 0 0 32 24 8 0 0 0', 'stop']);
   same('negative length', linesFor([13n, -1n]), ['stop']);
-  same('call broken off', linesFor([...words, ...words.slice(0, 9)]), ['0 0 32 24 8 0 0 0']);
+  same('call broken off', linesFor([...words, ...words.slice(0, 9)]), ['0 0 0 32 24 8 0 0 0']);
   for (const none of [0n, 17n, 99n, 103n, 2n ** 32n + 1n, -1n]) {
-    same(`call ${none}`, linesFor([...words, none, ...words]), ['0 0 32 24 8 0 0 0']);
+    same(`call ${none}`, linesFor([...words, none, ...words]), ['0 0 0 32 24 8 0 0 0']);
   }
   same('bits', [bitsOf(0), bitsOf(-0), bitsOf(1)], [0n, 2n ** 63n, 0x3ff0000000000000n]);
   const many = new Array(65).fill(-1);
   same('checksum', linesFor(callWords(1, { ...args, samples: many, results: many, work: [] })),
-    [`8 0 # 65 ${2 ** 31 - 1 - (65 * 66) / 2}`]);
+    [`8 0 0 # 65 ${2 ** 31 - 1 - (65 * 66) / 2}`]);
 }
 
 export function testFormats() {

@@ -19,7 +19,7 @@ function outputFacts() {
   same('summary of a picture', [summary.lowest, summary.highest, summary.indexOfLowest, summary.indexOfHighest],
     [-1.5, 2, 1, 0]);
   const refused = summaryPicture({ ...one, results: BigInt64Array.of(0n, 0n, 33n) });
-  same('refused summary', Object.values(refused), [12, 2, 0, 0, 0, 0]);
+  same('refused summary', Object.values(refused), [12, 2, 0, 0, 0, 0, 0]);
 }
 
 function doublesInFacts() {
@@ -30,7 +30,7 @@ function doublesInFacts() {
   same('accepted', convert([9, -9, 0]).samples, [9, -9, 0]);
   for (const bad of [NaN, Infinity, -Infinity, 0.5, 5e-324, 10, 2 ** 53]) {
     const outcome = convert([1, bad]);
-    same(`double ${bad}`, [outcome.number, outcome.position, outcome.samples], [11, 1, [7, 7]]);
+    same(`double ${bad}`, [outcome.number, outcome.position, outcome.bad, outcome.samples], [11, 1, 1, [7, 7]]);
   }
 }
 

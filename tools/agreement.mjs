@@ -25,7 +25,7 @@ const wholes = (slice) => list(slice, whole);
 const naturals = (slice) => list(slice, String);
 const floats = (slice) => list(slice, float);
 const planOf = ({ radius, inner, edge, passes }) => `(plan ${radius} ${inner} ${edge} ${passes})`;
-const answerOf = ({ number, position = 0n }) => record({ number, position });
+const answerOf = ({ number, position = 0n, bad = 0n }) => record({ number, position, bad });
 
 function record(fields) {
   return `record { ${Object.entries(fields).map(([name, value]) => `${name} = ${value}`).join('; ')} }`;
@@ -211,11 +211,11 @@ const OPENED = {
   'Rattle.meaning.specs.Kernel': 'tap passAt kernel width reach tapSum divisor',
   'Rattle.meaning.specs.Smoothing': 'listOf convolved result results weight near',
   'Rattle.meaning.specs.Picture': 'pixel grid picture',
-  'Rattle.meaning.specs.Refusals': 'firstOf firstWhere rowAt some planRows sizeRows ifDone ownRows planDivisor planReach',
+  'Rattle.meaning.specs.Refusals': 'firstOf firstWhere countWhere rowAt some planRows sizeRows ifDone ownRows planDivisor planReach',
   'Rattle.meaning.specs.Values':
     'nearest ratio takes doubleRows doublesIn outputRows converted unbeaten summary',
   'Rattle.meaning.specs.Carry': 'carry carryCell carried',
-  'Rattle.meaning.specs.Calls': 'smoothRows smoothed gained editRows countWhere changed editSeries pointRows point',
+  'Rattle.meaning.specs.Calls': 'smoothRows smoothed gained editRows changed editSeries pointRows point',
   'Rattle.meaning.specs.Planner': 'largest radiusFor nearestDown edgeFor widened stageFor plannerRows planFor',
   'Rattle.meaning.specs.Encoding': 'bytes number text digits decimal',
   'Rattle.meaning.specs.Record':

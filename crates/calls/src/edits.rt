@@ -43,6 +43,7 @@ fn edited_series(
     output::first(edited.number);
     output::number(edited.position as u64);
     output::number(edited.count as u64);
+    output::number(edited.bad as u64);
     output::samples(samples);
     output::wholes(results);
     output::wholes(work);

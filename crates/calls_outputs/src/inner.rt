@@ -40,7 +40,7 @@ fn doubles_in(open: &mut bool, samples: &mut [i32], doubles: &mut [f64], words: 
 }
 
 fn taken(bound: u64, doubles: &[f64], samples: &mut [i32]) {
-    output::answer(samples::doubles_in(bound, doubles, samples));
+    output::checked(samples::doubles_in(bound, doubles, samples));
     output::samples(samples);
     output::end_line();
 }

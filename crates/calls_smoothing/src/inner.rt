@@ -39,7 +39,7 @@ fn smooth_series(open: &mut bool, samples: &mut [i32], results: &mut [i64], work
 }
 
 fn smoothed_series(plan: Plan, bound: u64, samples: &[i32], results: &mut [i64], work: &mut [i64]) {
-    output::answer(series::smooth_series(plan, bound, samples, results, work));
+    output::checked(series::smooth_series(plan, bound, samples, results, work));
     output::wholes(results);
     output::wholes(work);
     output::end_line();
@@ -62,7 +62,7 @@ fn smooth_picture(open: &mut bool, samples: &mut [i32], results: &mut [i64], wor
 }
 
 fn smoothed_picture(picture: Raster, samples: &[i32], results: &mut [i64], work: &mut [i64]) {
-    output::answer(picture::smooth_picture(
+    output::checked(picture::smooth_picture(
         picture.across,
         picture.down,
         picture.bound,
@@ -95,11 +95,13 @@ fn pointed(plan: Plan, bound: u64, position: usize, samples: &[i32], work: &mut 
         Point::Value(x) => {
             output::first(0);
             output::number(0);
+            output::number(0);
             output::double(x);
         }
-        Point::Refused(number, index) => {
+        Point::Refused(number, index, bad) => {
             output::first(number);
             output::number(index as u64);
+            output::number(bad as u64);
             output::number(0);
         }
     }

@@ -9,6 +9,7 @@ ghost use Rattle.calls_stream.specs.Checksum.{modulus, gained, checksumO
 use encoding::inner::magnitude;
 use libc::STDOUT_FILENO;
 use plan::Answer;
+use plan::Checked;
 
 // Of a longer slice a checksum is printed.
 const MOST_PRINTED: usize = 64;
@@ -21,6 +22,13 @@ const QUIET_NAN: u64 = 9221120237041090560;
 pub fn answer(answer: Answer) {
     first(answer.number);
     number(answer.position as u64);
+}
+
+// The first three, of a call that tests samples.
+pub fn checked(answer: Checked) {
+    first(answer.number);
+    number(answer.position as u64);
+    number(answer.bad as u64);
 }
 
 // The first word of a line has no space before it.
