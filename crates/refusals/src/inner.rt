@@ -149,10 +149,11 @@ pub fn sample_refusal(bound: u64, samples: &[i32], start: usize, end: usize) -> 
     while start < i {
         i -= 1;
         if bound < size(samples[i] as i64) {
+            let bad = answer.bad + 1;
             answer = Checked {
                 number: 11,
                 position: i,
-                bad: answer.bad + 1,
+                bad,
             };
         }
     }

@@ -45,10 +45,11 @@ fn double_refusal(bound: u64, doubles: &[f64]) -> Checked
     while i > 0 {
         i -= 1;
         if !takes(bound, doubles[i]) {
+            let bad = answer.bad + 1;
             answer = Checked {
                 number: 11,
                 position: i,
-                bad: answer.bad + 1,
+                bad,
             };
         }
     }

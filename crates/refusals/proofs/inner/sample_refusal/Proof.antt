@@ -52,8 +52,8 @@ size-requires c κs = tt
 size-is : (c : tie.After-size Inv-loop μ-loop) → c .size .result ≡ natAbs (at (c .before .before .before .before .args .samples .now) (c .before .before .before .loop .i - 1))
 size-is c = c .size .ensures ∙ ap natAbs (toZ-ofZ (cast-size (c .before)) ∙ sample-read (c .before))
 
-add-t13 : tie.Need-add-t13 Inv-loop μ-loop
-add-t13 c = omega arith
+add-bad : tie.Need-add-bad Inv-loop μ-loop
+add-bad c = omega arith
 
 loop-less : tie.Need-loop-less Inv-loop μ-loop
 loop-less c = omega arith
@@ -97,7 +97,7 @@ sample-refusal-spec =
     shared-slice-copy-out-size
     cast-size
     size-requires
-    add-t13
+    add-bad
     loop-less
     loop-again
     loop-less-2

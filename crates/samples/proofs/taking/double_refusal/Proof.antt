@@ -40,8 +40,8 @@ takes-requires c κs = search needs
 tested : (c : tie.After-takes Inv-loop μ-loop) → bad (c .before .before .before .before .before .args .bound) (c .before .before .before .before .before .args .doubles .now) (c .before .before .before .loop .i - 1) ≡ not (c .takes .result)
 tested c = ap not (sym (c .takes .ensures))
 
-add-t10 : tie.Need-add-t10 Inv-loop μ-loop
-add-t10 c = omega arith
+add-bad : tie.Need-add-bad Inv-loop μ-loop
+add-bad c = omega arith
 
 loop-less : tie.Need-loop-less Inv-loop μ-loop
 loop-less c = omega arith
@@ -79,7 +79,7 @@ double-refusal-spec =
     mul-takes
     shared-slice-read-takes
     takes-requires
-    add-t10
+    add-bad
     loop-less
     loop-again
     loop-less-2
