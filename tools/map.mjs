@@ -138,6 +138,7 @@ const COLUMNS = {
   'lowest number': PROMISE,
   'done exactly': PROMISE,
   position: PROMISE,
+  'bad samples': PROMISE,
   refused: PROMISE,
   'one outcome': PROMISE,
   'must-fail edits': ['no must-fail edit', isEdit],

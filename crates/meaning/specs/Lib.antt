@@ -4,7 +4,7 @@
 --   Kernel      plans, tap row, K-fold kernel, divisor, reach
 --   Smoothing   results of a series; the weight of a sample in a result
 --   Picture     results of a picture
---   Refusals    the table of numbers, and the lowest that applies
+--   Refusals    the table of numbers, and the lowest that applies; how many samples are bad is of document 02
 --   Values      doubles in; whole numbers, doubles and summary out
 --   Carry       whole numbers out that add up; its page is document 02
 --   Calls       smoothing a series and a picture, an edit, a point: what each answers and leaves
