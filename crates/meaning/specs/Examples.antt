@@ -65,11 +65,11 @@ data Example : Type 0 where
   -- the job's bytes; what the program prints
   job : List ℕ → String → Example
 
-abbrev refusal : ℕ → ℕ → ℕ → Answer
-refusal n p k = record { number = n; position = p; bad = k }
+abbrev answer : ℕ → ℕ → ℕ → Answer
+answer n p k = record { number = n; position = p; bad = k }
 
 abbrev done : Answer
-done = refusal 0 0 0
+done = answer 0 0 0
 
 -- The bound is 9, of refused outputs 1. Results to be written, work and cells are lent with the samples in them, where no samples are given with the results; an edit's results, and those put out of samples, are the smoothing.
 abbrev Holds : Example → Type 0
@@ -80,17 +80,17 @@ Holds (planner s K b r a) = planFor s K b ≡ record { answer = done; radius = r
 Holds (whole ss f c) = wholeSeries ss 9 (results fold ss f) f ≡ record { answer = done; cells = c }
 Holds (carries ss r k c) = carrySeries ss 9 r r ≡ record { answer = done; carry = k; cells = c }
 Holds (carriesRaster hs vs W H f k c) = carryPicture hs vs 9 W H (picture fold fold hs vs W H f) f ≡ record { answer = done; carry = k; cells = c }
-Holds (uncarried ss r n p) = carrySeries ss 1 r r ≡ record { answer = refusal n p 0; carry = 0; cells = r }
-Holds (taken M xs f n p k g) = doublesIn M xs f ≡ record { answer = refusal n p k; cells = g }
-Holds (unsmoothed ss f n p k) = smoothSeries fold ss 9 f f f ≡ record { answer = refusal n p k; results = f; work = f }
-Holds (unedited ss f i v n p k) = editSeries fold ss 9 i v f f (f ++ f) ≡ record { answer = refusal n p k; count = 0; samples = f; results = f; work = f ++ f }
-Holds (unpointed ss f i n p k) = point fold ss 9 i f (f ++ f) ≡ record { answer = refusal n p k; value = plusZero; work = f ++ f }
+Holds (uncarried ss r n p) = carrySeries ss 1 r r ≡ record { answer = answer n p 0; carry = 0; cells = r }
+Holds (taken M xs f n p k g) = doublesIn M xs f ≡ record { answer = answer n p k; cells = g }
+Holds (unsmoothed ss f n p k) = smoothSeries fold ss 9 f f f ≡ record { answer = answer n p k; results = f; work = f }
+Holds (unedited ss f i v n p k) = editSeries fold ss 9 i v f f (f ++ f) ≡ record { answer = answer n p k; count = 0; samples = f; results = f; work = f ++ f }
+Holds (unpointed ss f i n p k) = point fold ss 9 i f (f ++ f) ≡ record { answer = answer n p k; value = plusZero; work = f ++ f }
 Holds (summed ss r l i h j) = summarySeries ss 9 r ≡ record { answer = done; lowest = l; highest = h; lowestAt = i; highestAt = j }
-Holds (refused hs vs W H r n p) = wholePicture hs vs 1 W H r r ≡ record { answer = refusal n p 0; cells = r }
-Holds (unplanned s K b n) = planFor s K b ≡ record { answer = refusal n 0 0; radius = 0; edge = 0 }
+Holds (refused hs vs W H r n p) = wholePicture hs vs 1 W H r r ≡ record { answer = answer n p 0; cells = r }
+Holds (unplanned s K b n) = planFor s K b ≡ record { answer = answer n 0 0; radius = 0; edge = 0 }
 Holds (divided ss d) = planDivisor ss ≡ d
 Holds (reached ss n) = planReach ss ≡ n
-Holds (bounded ss M n) = firstOf (commonRows (seriesOf ss 1) M false) ≡ refusal n 0 0
+Holds (bounded ss M n) = firstOf (commonRows (seriesOf ss 1) M false) ≡ answer n 0 0
 Holds (job s t) = program s ≡ text t
 
 abbrev plus : List ℕ → List ℤ

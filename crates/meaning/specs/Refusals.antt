@@ -60,7 +60,7 @@ unfoldable pub countWhere : ℕ → (ℕ → Bool) → ℕ
 countWhere zero test = 0
 countWhere (suc N) test = countWhere N test + cond (test N) 1 0
 
--- "the number of bad samples among those it tests", and "0 with other answers"
+-- document 02: "the number of bad samples among those it tests"; "it is 0 with other answers"
 abbrev pub badAt : ℕ → ℕ → (ℕ → Bool) → ℕ
 badAt n N test = cond (eqb n 11) (countWhere N test) 0
 

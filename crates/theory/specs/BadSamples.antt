@@ -47,6 +47,6 @@ module _ (front rest : List Row) (u : Unplaced 11 front) (N : ℕ) (t : ℕ → 
       count = count-11;
       other = λ n. ⊎-elim (λ p. absurd (n (p .number))) (λ p. p .1) either;
       some = λ n. some-11 n (count-11 n);
-      given = λ n h. (some-11 n h, λ j l on. let m = number-lowest rows number r .1 j on in omega arith);
-      exactly = λ h k lower. number-exactly rows number r m (applies-11 h k) lower;
+      needs = λ n h. (some-11 n h, λ j l on. let m = number-lowest rows number r .1 j on in omega arith);
+      suffices = λ h k lower. number-exactly rows number r m (applies-11 h k) lower;
     }
