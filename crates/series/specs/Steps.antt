@@ -3,13 +3,12 @@
 -- passable (each pass has room), after-none, after-next; call-refused, call-done.
 use Prim.Native.Nat.{ℕ, suc, _*_, _<_}
 use mathlib.Core.Path.{_≡_, refl, sym, _∙_, ap}
-use mathlib.Core.Bool.{Bool, true, false, _||_, _&&_}
+use mathlib.Core.Bool.{Bool, false, _||_}
 use mathlib.Core.List.{List, [], _∷_, _++_}
 use native.Mathlib.Nat.{le-trans}
 use native.Mathlib.Omega.{arith}
 use lib.ListN.{length, replicate}
 use lib.IntN.{ℤ, pos}
-use borrow.Author.Tests.{le-leb, lt-ltb}
 use Rattle.meaning.specs.Extension.{at, fold}
 use Rattle.meaning.specs.Kernel.{divisor}
 use Rattle.meaning.specs.Smoothing.{results, pass}

@@ -2,7 +2,7 @@
 -- Laws: none-behind (no row stands behind row 11); bad-counted (of rows with no position, then row 11, then others).
 use mathlib.Core.Path.{_≡_, refl, sym, ap, _∙_}
 use mathlib.Core.Logic.{_⊎_, inl, inr, ⊎-elim}
-use mathlib.Core.Bool.{Bool, true, false, true≢false}
+use mathlib.Core.Bool.{Bool, true, true≢false}
 use mathlib.Core.List.{List, [], _∷_, _++_}
 use mathlib.Mathlib.Data.Bool.Basic.{eq-true-of-not-eq-false}
 use Prim.Native.Nat.{ℕ, _<_}

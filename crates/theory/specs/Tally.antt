@@ -1,7 +1,7 @@
 -- Row 11 as a loop finds it that goes from the last place down to the first, and counts.
 --   tally N end t i   what it answers for the places from i up to end, of N, where t is true of the bad ones
 -- Laws: tally-none (of no place), tally-start (from end down to start, wherever they are), tally-passed, tally-bad (one place more, below the others), tally-all (of all places).
-use mathlib.Core.Path.{_≡_, refl, sym, ap, _∙_}
+use mathlib.Core.Path.{_≡_, sym, ap, _∙_}
 use mathlib.Core.Logic.{⊎-elim}
 use mathlib.Core.Bool.{Bool, true, false, and-false}
 use mathlib.Core.List.{[], _∷_}
@@ -9,7 +9,7 @@ use Prim.Native.Nat.{ℕ, _+_, _≤_, _<_, min}
 use native.Mathlib.Decide.{ℕ-discrete, decLe, decLt}
 use native.Mathlib.Omega.{arith}
 use Rattle.meaning.specs.Refusals.{Answer, firstOf, countWhere, rowAt, within}
-use Rattle.theory.specs.Refusals.{done, off-done}
+use Rattle.theory.specs.Refusals.{done}
 use Rattle.theory.specs.Counts.{count-none, count-more}
 use Rattle.theory.specs.Tests.{within-yes, within-before, within-behind}
 use Rattle.theory.specs.Places.{picked, rowAt-ext, rowAt-all, rowAt-on, rowAt-none, rowAt-answer, walk-start, walk-done}
