@@ -1,6 +1,6 @@
 -- The steps of an edit, each over plain lists.
 -- Laws: position-inside, value-fits, change-fits, editable (what rows 1 to 11 leave); call-refused, call-too-large, call-done.
-use Prim.Native.Nat.{ℕ, _+_, _*_, _-_, _≤_, _<_}
+use Prim.Native.Nat.{ℕ, _+_, _*_, _≤_, _<_}
 use mathlib.Core.Path.{_≡_, refl, sym, _∙_, ap}
 use mathlib.Core.List.{List}
 use native.Mathlib.Omega.{arith}

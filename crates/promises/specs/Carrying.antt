@@ -29,7 +29,6 @@ use denote.Triple.Clauses.{AtExit}
 use borrow.Fn.Kinds.{Dens, resT, endedOf}
 use Rattle.algebra.specs.Sum.{sum}
 use Rattle.meaning.specs.Extension.{at, fold}
-use Rattle.meaning.specs.Kernel.{divisor}
 use Rattle.meaning.specs.Smoothing.{listOf}
 use Rattle.meaning.specs.Smoothing as smoothing
 use Rattle.meaning.specs.Picture.{picture}

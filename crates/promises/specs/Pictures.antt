@@ -50,7 +50,6 @@ use Rattle.theory.specs.Sizes.{results-size}
 use Rattle.theory.specs.Picture.{length-picture, cell-picture, rows-first, columns-first, across-size, picture-size}
 use Rattle.theory.specs.AcceptedSmoothings as tested
 use Rattle.plan.specs.declared.Plan.{Plan}
-use Rattle.plan.specs.declared.Answer.{Answer}
 use Rattle.plan.specs.Structs.{stagesOf, checkedAnswer}
 use Rattle.picture.proofs.smooth_picture.Reads as smooth-picture
 use Rattle.picture.proofs.smooth_picture.Kinds as kinds

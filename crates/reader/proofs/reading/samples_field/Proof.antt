@@ -4,8 +4,6 @@ use Prim.Native.Nat.{ℕ, _+_, _-_}
 use mathlib.Core.List.{List}
 use native.Mathlib.Omega.{arith}
 use lib.ListN.{length, length-drop}
-use Rattle.meaning.specs.Record.{begins}
-use Rattle.meaning.specs.Refusals.{outside}
 use Rattle.reader.specs.declared.reading.Stretch.the-variants as S
 use Rattle.reader.specs.Reading.{left, samples-yes, samples-odd, samples-outside, samples-other}
 use borrow.Author.Needs.{needs}

@@ -5,7 +5,6 @@ use mathlib.Core.Bool.{true, false}
 use borrow.Author.Needs.{needs, sfits-of}
 use lib.ListN.{length}
 use mir.Facts.{toZ-ofZ}
-use Rattle.meaning.specs.Values.{ratio}
 use Rattle.summary.specs.Structs.{done-summary}
 use Rattle.outputs.specs.Ready.{quotient-bounds}
 use Rattle.summary.specs.Extremes.{ahead-in}
