@@ -12,6 +12,7 @@ ghost use Rattle.theory.specs.Placed.{placedRows};
 ghost use Rattle.plan.specs.Structs.{stagesOf, checkedAnswer, plain};
 ghost use Rattle.refusals.specs.Sides.{pictureCells};
 ghost use Rattle.refusals.specs.Span.{low, high};
+use crate::bad;
 use plan::Checked;
 use plan::Plan;
 use plan::inner::first_row;
@@ -135,29 +136,19 @@ pub fn size(x: i64) -> u64
     x as u64
 }
 
-// Row 11, of the samples from start up to end, all of which are tested. From the last down, so that the place kept is the first.
+// Row 11, of the samples from start up to end. Only where one is bad are they counted.
 pub fn sample_refusal(bound: u64, samples: &[i32], start: usize, end: usize) -> Checked
     requires { ⌜ end ≤ length (now samples) ⌝ }
     ensures { λ r. ⌜ checkedAnswer r ≡ R.firstOf (C.sampleRow bound (now (samples .entry)) (R.within start end) ∷ []) ⌝ }
 {
-    let mut answer = Checked {
-        number: 0,
-        position: 0,
-        bad: 0,
-    };
-    let mut i = end;
-    while start < i {
-        i -= 1;
-        if bound < size(samples[i] as i64) {
-            let bad = answer.bad + 1;
-            answer = Checked {
-                number: 11,
-                position: i,
-                bad,
-            };
-        }
+    if bad::all_acceptable(bound, samples, start, end) {
+        return Checked {
+            number: 0,
+            position: 0,
+            bad: 0,
+        };
     }
-    answer
+    bad::tally(bound, samples, start, end)
 }
 
 // The cells of work that an edit and a point ask, under every plan.

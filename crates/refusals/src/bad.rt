@@ -1,0 +1,69 @@
+// Which samples are bad: those of a size above the bound.
+ghost use mathlib.Core.Path.{_≡_};
+ghost use mathlib.Core.Bool.{true};
+ghost use mathlib.Core.List.{[], _∷_};
+ghost use Prim.Native.Nat.{ℕ, _≤_, _<_};
+ghost use lib.Dec.{T};
+ghost use lib.ListN.{length};
+ghost use lib.IntN.{natAbs};
+ghost use lib.Signed.{nonNeg};
+ghost use Rattle.meaning.specs.Extension.{at};
+ghost use Rattle.meaning.specs.Refusals as R;
+ghost use Rattle.meaning.specs.Calls as C;
+ghost use Rattle.plan.specs.Structs.{checkedAnswer};
+use plan::Checked;
+use plan::Plan;
+
+// Is x from -most to most?
+fn is_acceptable(most: i32, x: i32) -> bool
+    requires { ⌜ T (nonNeg most) ⌝ }
+    ensures { λ r. ⌜ (r ≡ true → natAbs x ≤ natAbs most) ⌝ }
+{
+    if x < 0 - most {
+        return false;
+    }
+    x <= most
+}
+
+// Is none bad? The loop counts nothing and has no way out, so that several samples are compared at once. Of a bound above the largest, which no call accepts, the answer is no.
+pub(crate) fn all_acceptable(bound: u64, samples: &[i32], start: usize, end: usize) -> bool
+    requires { ⌜ end ≤ length (now samples) ⌝ }
+    ensures { λ r. ⌜ (r ≡ true → (i : ℕ) → i < end → start ≤ i → natAbs (at (now (samples .entry)) i) ≤ bound) ⌝ }
+{
+    if Plan::MAX_BOUND < bound {
+        return false;
+    }
+    let most = bound as i32;
+    let mut acceptable = true;
+    let mut i = start;
+    while i < end {
+        acceptable = acceptable & is_acceptable(most, samples[i]);
+        i += 1;
+    }
+    acceptable
+}
+
+// Row 11, with the bad samples counted. From the last down, so that the place kept is the first.
+pub(crate) fn tally(bound: u64, samples: &[i32], start: usize, end: usize) -> Checked
+    requires { ⌜ end ≤ length (now samples) ⌝ }
+    ensures { λ r. ⌜ checkedAnswer r ≡ R.firstOf (C.sampleRow bound (now (samples .entry)) (R.within start end) ∷ []) ⌝ }
+{
+    let mut answer = Checked {
+        number: 0,
+        position: 0,
+        bad: 0,
+    };
+    let mut i = end;
+    while start < i {
+        i -= 1;
+        if bound < crate::inner::size(samples[i] as i64) {
+            let bad = answer.bad + 1;
+            answer = Checked {
+                number: 11,
+                position: i,
+                bad,
+            };
+        }
+    }
+    answer
+}
