@@ -2,7 +2,7 @@
 import { divisorOf } from './smoothing.mjs';
 import {
   BAD_SAMPLES, EIGHT, EXACT, EXACT_BOUND, FIVE, LARGEST_I64, LEAST_I64, MOST_BOUND, ONE, THREE,
-  anyBound, anyPatches, anyPlan, anySamples, chance, filled, junk, plan, times,
+  anyBound, anyPatches, anyPlan, anySamples, chance, filled, junk, oneBadOf, plan, times,
 } from './inputs.mjs';
 import { PICTURE_LIMITS, SAMPLE_FAULTS, faultCases, lengthFaults } from './faults.mjs';
 
@@ -56,6 +56,7 @@ const PICTURE_EDGES = [
 
 const PICTURE_BAD = [
   ...BAD_SAMPLES.map(([note, samples]) => pictureCase(note, [FIVE, THREE], 9, [2, 2], samples)),
+  ...oneBadOf(18).map(([note, samples]) => pictureCase(note, [FIVE, THREE], 9, [6, 3], samples)),
   pictureCase('one column bad', [FIVE, THREE], 9, [3, 2], [1, 10, 2, 3, -10, 4]),
   pictureCase('one row bad', [FIVE, THREE], 9, [3, 2], [1, 2, 3, 10, -10, 11]),
   pictureCase('256 by 256, all bad', [FIVE, THREE], 9, [256, 256], filled(65_536, -10)),

@@ -2,7 +2,7 @@
 import {
   EIGHT, FARTHEST, LARGE, LARGE_BOUND, LARGEST_I64, LEAST_I32, LEAST_I64, LONG_SERIES, MOST_BOUND, ONE, SEVENS, THREE,
   WIDE_LIMITS, WIDEST, WIDEST_BOUND,
-  anySamples, anySeries, chance, filled, junk, largestBound, plan, times,
+  anySamples, anySeries, chance, filled, junk, largestBound, oneBadOf, plan, times,
 } from './inputs.mjs';
 import { POSITION_FAULTS, SAMPLE_FAULTS, SERIES_LIMITS, fault, faultCases, lengthFaults } from './faults.mjs';
 
@@ -95,8 +95,9 @@ const FIRST_REFUSED = [
   pointCase('bad before the first within reach', EIGHT, 9, 3, [10, 1, 2, 3]),
 ];
 
-// Those within reach are counted alone, of a point in the middle of nine and at either end.
+// Those within reach are counted alone, of a point in the middle and at either end. Of 19 the outer two are past it.
 const COUNTED = [
+  ...oneBadOf(19).map(([note, samples]) => pointCase(note, plan(8, 1, 0, 1), 9, 9, samples)),
   pointCase('all within reach bad, none past it', EIGHT, 9, 4, [0, 0, 10, -10, LEAST_I32, 10, -10, 0, 0]),
   pointCase('all bad', EIGHT, 9, 4, filled(9, 10)),
   pointCase('all bad but the first and the last within reach', EIGHT, 9, 4, [10, 10, 9, 10, 10, 10, -9, 10, 10]),

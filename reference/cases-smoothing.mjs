@@ -1,7 +1,7 @@
 // Cases of call 1: smoothing a series.
 import {
   BAD_SAMPLES, EIGHT, LARGE, LARGE_BOUND, LARGEST_I64, LEAST_I32, LEAST_I64, LONG_SERIES, MOST_BOUND, ONE, THREE, WIDE_LIMITS, WIDEST,
-  anyBound, anySamples, anySeries, chance, filled, junk, largestBound, plan, times,
+  anyBound, anySamples, anySeries, chance, filled, junk, largestBound, oneBadOf, plan, times,
 } from './inputs.mjs';
 import { EMPTY_SERIES, SAMPLE_FAULTS, SERIES_LIMITS, faultCases, lengthFaults } from './faults.mjs';
 
@@ -80,7 +80,7 @@ const SERIES_EDGES = [
 ];
 
 const SERIES_BAD = [
-  ...BAD_SAMPLES.map(([note, samples]) => seriesCase(note, THREE, 9, samples)),
+  ...[...BAD_SAMPLES, ...oneBadOf(17)].map(([note, samples]) => seriesCase(note, THREE, 9, samples)),
   seriesCase('one sample, bad', THREE, 9, [10]),
   seriesCase('65,536 samples, all bad', THREE, 9, [...filled(30_000, 10), ...filled(35_536, LEAST_I32)]),
   seriesCase('65,536 samples, both ends bad', THREE, 9, filled(65_536, 9).with(0, 10).with(65_535, -10)),

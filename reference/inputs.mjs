@@ -142,6 +142,11 @@ export const BAD_SAMPLES = [
   ['all bad', [10, -10, LEAST_I32, MOST_BOUND]],
 ];
 
+// All at the bound of 9 but one, which stands at each place in turn: compiled code tests several samples at once.
+export function oneBadOf(length) {
+  return times(length, (n) => [`one bad of ${length}, at ${n}`, filled(length, 9).with(n, n % 2 === 0 ? 10 : -10)]);
+}
+
 // What a slice happens to hold before a call.
 export function junk(below, length) {
   return times(length, () => pick(below, [below(19) - 9, below(19) - 9, below(1999) - 999]));
