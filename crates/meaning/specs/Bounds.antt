@@ -136,13 +136,13 @@ pub data HowMany (P : ℕ → Type 0) : ℕ → ℕ → Type 0 where
   one-more : {N k : ℕ} → P N → HowMany P N k → HowMany P (suc N) (suc k)
   no-more : {N k : ℕ} → (P N → ⊥) → HowMany P N k → HowMany P (suc N) k
 
--- At 11 the number of bad samples is how many there are, and not 0; else it is 0. And 11 is given exactly where there are some and no row below it applies.
+-- At 11 the number of bad samples is how many there are, and not 0, and no row below applies; else it is 0. Where there are some, and no row below 11 applies, it is 11.
 pub record Counted (P : ℕ → Type 0) (N : ℕ) (rows : List Row) (a : Answer) : Type 0 where
   pub count : a .number ≡ 11 → HowMany P N (a .bad)
   pub some : a .number ≡ 11 → a .bad ≢ 0
+  pub lowest : a .number ≡ 11 → (n : ℕ) → n < 11 → Applies n rows → ⊥
   pub other : a .number ≢ 11 → a .bad ≡ 0
-  pub needs : a .number ≡ 11 → {k : ℕ} → HowMany P N k → (k ≢ 0) × ((n : ℕ) → n < 11 → Applies n rows → ⊥)
-  pub suffices : {k : ℕ} → HowMany P N k → k ≢ 0 → ((n : ℕ) → n < 11 → Applies n rows → ⊥) → a .number ≡ 11
+  pub given : {k : ℕ} → HowMany P N k → k ≢ 0 → ((n : ℕ) → n < 11 → Applies n rows → ⊥) → a .number ≡ 11
 
 abbrev pub TooLarge : IndexMap → List Stage → ℕ → ℕ → ℤ → List ℤ → ℕ → Type 0
 TooLarge φ ss L p d r n = (apart n p ≤ reach ss) × ((L < natAbs (at r n)) ⊎ (L < natAbs (at r n +ℤ d *ℤ weight φ ss (length r) (pos n) p)))

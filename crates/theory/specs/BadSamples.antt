@@ -36,8 +36,8 @@ module _ (front rest : List Row) (u : Unplaced 11 front) (N : ℕ) (t : ℕ → 
     count-11 : a .number ≡ 11 → HowMany P N (a .bad)
     count-11 n = rw (of-11 n .bad) (how-many N t to from)
 
-    some-11 : a .number ≡ 11 → {k : ℕ} → HowMany P N k → k ≡ 0 → ⊥
-    some-11 n h z = let f = of-11 n .first in let l = how-many-some N _ h (f .within) (to _ (f .within) (f .here)) in omega arith
+    some-11 : a .number ≡ 11 → a .bad ≡ 0 → ⊥
+    some-11 n z = let f = of-11 n .first in let l = how-many-some N _ (count-11 n) (f .within) (to _ (f .within) (f .here)) in omega arith
 
     number : a .number ≡ firstOf rows .number
     number = ap (λ (x : Answer). x .number) e
@@ -45,8 +45,8 @@ module _ (front rest : List Row) (u : Unplaced 11 front) (N : ℕ) (t : ℕ → 
     pub bad-counted : Rising rows → Numbered rows → Counted P N rows a
     bad-counted r m = record {
       count = count-11;
+      some = some-11;
+      lowest = λ n j l on. let m = number-lowest rows number r .1 j on in omega arith;
       other = λ n. ⊎-elim (λ p. absurd (n (p .number))) (λ p. p .1) either;
-      some = λ n. some-11 n (count-11 n);
-      needs = λ n h. (some-11 n h, λ j l on. let m = number-lowest rows number r .1 j on in omega arith);
-      suffices = λ h k lower. number-exactly rows number r m (applies-11 h k) lower;
+      given = λ h k lower. number-exactly rows number r m (applies-11 h k) lower;
     }
