@@ -139,7 +139,7 @@ pub data HowMany (P : ℕ → Type 0) : ℕ → ℕ → Type 0 where
 -- At 11 the number of bad samples is how many there are, and not 0, and no row below applies; else it is 0. Where there are some, and no row below 11 applies, it is 11.
 pub record Counted (P : ℕ → Type 0) (N : ℕ) (rows : List Row) (a : Answer) : Type 0 where
   pub count : a .number ≡ 11 → HowMany P N (a .bad)
-  pub some : a .number ≡ 11 → a .bad ≢ 0
+  pub nonzero : a .number ≡ 11 → a .bad ≢ 0
   pub lowest : a .number ≡ 11 → (n : ℕ) → n < 11 → Applies n rows → ⊥
   pub other : a .number ≢ 11 → a .bad ≡ 0
   pub given : {k : ℕ} → HowMany P N k → k ≢ 0 → ((n : ℕ) → n < 11 → Applies n rows → ⊥) → a .number ≡ 11

@@ -156,9 +156,10 @@ examples =
     ∷ unplanned 25601 3 256 3
     ∷ unplanned 25601 3 16 13
     ∷ unsmoothed (plan 1 1 0 1) (pos 9 ∷ pos 10 ∷ negsuc 8 ∷ negsuc 9 ∷ []) 11 1 2
+    ∷ unsmoothed (plan 1 1 0 1) (pos 10 ∷ negsuc 9 ∷ pos 9 ∷ pos 10 ∷ []) 11 0 3
     ∷ unsmoothed (plan 1 1 1 1) (pos 9 ∷ pos 10 ∷ negsuc 8 ∷ negsuc 9 ∷ []) 4 0 0
     ∷ unedited (plan 1 1 0 1) (plus (10 ∷ 10 ∷ 10 ∷ [])) 1 (pos 9) 11 1 1
-    ∷ unedited (plan 1 1 0 1) (plus (10 ∷ 9 ∷ 10 ∷ [])) 1 (pos 10) 10 0 0
+    ∷ unedited (plan 1 1 0 1) (plus (10 ∷ 10 ∷ 10 ∷ [])) 1 (pos 10) 10 0 0
     ∷ unpointed (plan 1 1 0 1) (plus (10 ∷ 0 ∷ 10 ∷ 0 ∷ 10 ∷ 10 ∷ [])) 3 11 2 2
     ∷ []
 
@@ -174,4 +175,4 @@ unfolding examples sumWithin emod reflect fold ext tap passAt kernel width reach
 examples-hold =
     refl and refl and refl and refl and refl and refl and refl
     and refl and refl and refl and refl and refl
-    and refl and refl and refl and refl and refl and refl and refl and refl and refl and refl and refl and refl and refl and refl and refl and refl and refl and refl and refl and refl and refl and refl and refl and refl and refl and refl and refl and refl and refl and refl and refl and refl and refl and refl and refl and refl and refl and none
+    and refl and refl and refl and refl and refl and refl and refl and refl and refl and refl and refl and refl and refl and refl and refl and refl and refl and refl and refl and refl and refl and refl and refl and refl and refl and refl and refl and refl and refl and refl and refl and refl and refl and refl and refl and refl and refl and refl and none

@@ -6,7 +6,7 @@
 --   n when b           row n, with position 0 and no bad sample
 --   firstWhere N t     the first of 0 .. N - 1 where the test t is true; N where there is none
 --   countWhere N t     at how many of 0 .. N - 1 it is true
---   badAt n N t        how many samples are bad, by row n: those where t is true at 11, else 0
+--   badAt n N t        how many samples are bad, by row n: of row 11 those where t is true, of every other row none
 --   rowAt n N t        row n, at the first of 0 .. N - 1 where t is true
 --   some t xs          t is true of one of xs
 --   outside, differs   not from low to high; not the length asked

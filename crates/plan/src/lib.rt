@@ -13,13 +13,13 @@ pub struct Plan {
     pub passes: u64,
 }
 
-// Number 0 is done. The position is 0 but at 11 and 12.
+// Number 0 is done. The position is 0 but at 12.
 pub struct Answer {
     pub number: u64,
     pub position: usize,
 }
 
-// What a call answers that tests samples. Bad is how many of those it tests are not acceptable: 0 but at 11.
+// What a call answers that tests samples. Position is the first that is not acceptable, and bad how many are not: both are 0 but at 11.
 pub struct Checked {
     pub number: u64,
     pub position: usize,

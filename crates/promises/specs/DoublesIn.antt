@@ -1,7 +1,7 @@
 -- Doubles in: `samples::doubles_in` by its own contract, for all inputs.
 --   DoublesCall        any call, as its contract lets it end
 --   bound, doubles, samples   what it was given
---   number, place, bad what it answered
+--   number, place      what it answered
 --   samplesLeft        what it left
 --   double c i, sample c i    the double at i, and the sample left there
 --   rows, Allowed      its rows of the table of numbers, and the bounds of document 01
@@ -9,7 +9,7 @@
 --   doubles-in-lowest  the number is 0, or that of a row that applies, and then the lowest of those
 --   doubles-in-done, doubles-in-allowed   it is 0 exactly where no row applies, and exactly where the bounds hold
 --   doubles-in-place-11, doubles-in-place-other   at 11 the place is that of the first double that is no whole number of size at most the bound, else 0
---   doubles-in-bad     at 11, and there alone, bad is not 0, and how many doubles are no such number; and 11 is given exactly where some are not and no lower row applies
+--   doubles-in-bad     at 11, and there alone, the number of bad samples is not 0, and how many doubles are no such number; and 11 is given exactly where some are not and no lower row applies
 --   doubles-in-unchanged   a refused call leaves every sample as it was
 --   doubles-in-length  one that is done leaves as many samples as there are doubles
 --   doubles-in-samples each of them equals its double, and has size at most the bound
@@ -64,9 +64,6 @@ number c = c .answered .number
 
 abbrev pub place : DoublesCall → ℕ
 place c = c .answered .position
-
-abbrev pub bad : DoublesCall → ℕ
-bad c = c .answered .bad
 
 abbrev pub samplesLeft : DoublesCall → List ℤ
 samplesLeft c = now (c .left .1 .1 .0)

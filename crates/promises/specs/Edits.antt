@@ -191,7 +191,7 @@ module _ (c : EditCall) where
   edit-bad = tested.edit-bad _ _ _ _ _ _ _ _ answer-is
 
   pub edit-bad-one : number c ≡ 11 → bad c ≡ 1
-  edit-bad-one = tested.edit-one _ _ _ _ _ _ _ _ answer-is
+  edit-bad-one = tested.edit-bad-one _ _ _ _ _ _ _ _ answer-is
 
   pub edit-unchanged : number c ≢ 0 → (samplesLeft c ≡ samples c) × (resultsLeft c ≡ results c) × (workLeft c ≡ work c) × (count c ≡ 0)
   edit-unchanged h =

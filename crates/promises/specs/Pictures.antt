@@ -1,7 +1,7 @@
 -- Smoothing a picture: `picture::smooth_picture` by its own contract, for all inputs.
 --   PictureCall        any call, as its contract lets it end
 --   across, down, bound, width, height, samples, results, work   what it was given; stagesAcross and stagesDown are the plans'
---   number, place, bad what it answered
+--   number, place      what it answered
 --   resultsLeft, workLeft   what it left
 --   rows, Allowed      its rows of the table of numbers, and the bounds of document 01
 --   sample c x y       the sample at column x and row y of the picture that the extension has: mirrored at all four sides
@@ -9,7 +9,7 @@
 --   picture-lowest     the number is 0, or that of a row that applies, and then the lowest of those
 --   picture-done, picture-allowed   it is 0 exactly where no row applies, and exactly where the bounds hold
 --   picture-place-11, picture-place-other   at 11 the place is that of the first sample above the bound in row order, else 0
---   picture-bad        at 11, and there alone, bad is not 0, and how many samples are above the bound; and 11 is given exactly where some are and no lower row applies
+--   picture-bad        at 11, and there alone, the number of bad samples is not 0, and how many samples are above the bound; and 11 is given exactly where some are and no lower row applies
 --   picture-unchanged  a refused call leaves every cell as it was
 --   picture-left       one that is done leaves zeros in work
 --   picture-length     and as many results as there are cells
@@ -99,9 +99,6 @@ number c = c .answered .number
 
 abbrev pub place : PictureCall → ℕ
 place c = c .answered .position
-
-abbrev pub bad : PictureCall → ℕ
-bad c = c .answered .bad
 
 abbrev pub resultsLeft : PictureCall → List ℤ
 resultsLeft c = now (c .left .1 .1 .1 .1 .1 .1 .0)

@@ -1,7 +1,7 @@
 -- A point: `point::point` by its own contract, for all inputs.
 --   PointCall          any call, as its contract lets it end
 --   plan, bound, position, samples, work   what it was given; stages are the plan's
---   number, place, bad, value   what it answered: document 01's number, position and value of each case of the enum
+--   number, place, bad, value   what it answered: document 01's number, position and value, and document 02's number of bad samples, of each case of the enum
 --   workLeft           what it left
 --   rows, Allowed      its rows of the table of numbers, and the bounds of document 01
 --   Near c i           sample i is within reach of the position

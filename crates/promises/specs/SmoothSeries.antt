@@ -1,14 +1,14 @@
 -- Smoothing a series: `series::smooth_series` by its own contract, for all inputs. That it ends is the language's.
 --   SeriesCall         any call, as its contract lets it end
 --   plan, bound, samples, results, work   what it was given; stages are the plan's
---   number, place, bad what it answered (place is the position answered)
+--   number, place      what it answered (place is the position answered)
 --   resultsLeft, workLeft   what it left
 --   rows, Allowed      its rows of the table of numbers, and the bounds of document 01
 --   Exactly            as of Smoothings
 --   lowest-number      demand 1: the number is 0, or that of a row that applies, and then the lowest of those
 --   done-exactly, done-allowed   it is 0 exactly where no row applies, and exactly where the bounds hold
 --   position-first, position-other   at 11 the place is that of the first sample above the bound, else 0
---   bad-counted        at 11, and there alone, bad is not 0, and how many samples are above the bound; and 11 is given exactly where some are and no lower row applies
+--   bad-counted        at 11, and there alone, the number of bad samples is not 0, and how many samples are above the bound; and 11 is given exactly where some are and no lower row applies
 --   refused-unchanged  demand 1: a refused call leaves every cell as it was
 --   done-results       demand 2: the results of a call that is done are the convolution of the extension with the K-fold kernel; done-whole says so of the whole list
 --   done-left          such a call leaves zeros in work
@@ -74,9 +74,6 @@ number c = c .answered .number
 
 abbrev pub place : SeriesCall → ℕ
 place c = c .answered .position
-
-abbrev pub bad : SeriesCall → ℕ
-bad c = c .answered .bad
 
 abbrev pub resultsLeft : SeriesCall → List ℤ
 resultsLeft c = now (c .left .1 .1 .1 .0)

@@ -2,22 +2,23 @@
 ghost use mathlib.Core.Path.{_≡_};
 ghost use mathlib.Core.Bool.{true};
 ghost use mathlib.Core.List.{[], _∷_};
-ghost use Prim.Native.Nat.{ℕ, _≤_, _<_};
-ghost use lib.Dec.{T};
+ghost use Prim.Native.Nat.{_≤_};
+ghost use lib.Dec.{T, leb};
 ghost use lib.ListN.{length};
 ghost use lib.IntN.{natAbs};
 ghost use lib.Signed.{nonNeg};
-ghost use Rattle.meaning.specs.Extension.{at};
+ghost use Rattle.meaning.specs.Limits.{maxBound};
 ghost use Rattle.meaning.specs.Refusals as R;
 ghost use Rattle.meaning.specs.Calls as C;
 ghost use Rattle.plan.specs.Structs.{checkedAnswer};
+ghost use Rattle.refusals.specs.Acceptable.{Acceptable};
 use plan::Checked;
 use plan::Plan;
 
 // Is x from -most to most?
 fn is_acceptable(most: i32, x: i32) -> bool
     requires { ⌜ T (nonNeg most) ⌝ }
-    ensures { λ r. ⌜ (r ≡ true → natAbs x ≤ natAbs most) ⌝ }
+    ensures { λ r. ⌜ r ≡ leb (natAbs x) (natAbs most) ⌝ }
 {
     if x < 0 - most {
         return false;
@@ -28,7 +29,7 @@ fn is_acceptable(most: i32, x: i32) -> bool
 // Is none bad? The loop counts nothing and has no way out, so that several samples are compared at once. Of a bound above the largest, which no call accepts, the answer is no.
 pub(crate) fn all_acceptable(bound: u64, samples: &[i32], start: usize, end: usize) -> bool
     requires { ⌜ end ≤ length (now samples) ⌝ }
-    ensures { λ r. ⌜ (r ≡ true → (i : ℕ) → i < end → start ≤ i → natAbs (at (now (samples .entry)) i) ≤ bound) ⌝ }
+    ensures { λ r. ⌜ (r ≡ true → Acceptable bound (now (samples .entry)) start end) × (bound ≤ maxBound → Acceptable bound (now (samples .entry)) start end → r ≡ true) ⌝ }
 {
     if Plan::MAX_BOUND < bound {
         return false;

@@ -31,7 +31,7 @@ fn takes(bound: u64, x: f64) -> bool
     whole as f64 == x
 }
 
-// Row 11, of all doubles. From the last down, as samples are tested.
+// Row 11, of all doubles. From the last down, as samples are counted.
 fn double_refusal(bound: u64, doubles: &[f64]) -> Checked
     requires { ⌜ bound ≤ maxBound ⌝ }
     ensures { λ r. ⌜ checkedAnswer r ≡ R.firstOf (R.rowAt 11 (length (now (doubles .entry))) (λ i. not (meant.takes bound (getD (now (doubles .entry)) i nan))) ∷ []) ⌝ }

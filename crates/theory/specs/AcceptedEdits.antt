@@ -1,6 +1,6 @@
 -- The rows of an edit: it is done exactly where its bounds hold, which positions it answers, and that a true smoothing passes row 12.
 --   front ss M p v f nr nw   rows 1 to 10, of nr results and nw cells of work;  Begun  what they leave
--- Laws: edit-rising, edit-numbered; front-begun, old-passes (row 11); edit-allowed, allowed-edit; edit-old (the position at 11), edit-place (at 12), edit-no-position (else); edit-bad (how many samples are bad), edit-one (at 11); edit-never-12 (of a true smoothing).
+-- Laws: edit-rising, edit-numbered; front-begun, old-passes (row 11); edit-allowed, allowed-edit; edit-old (the position at 11), edit-place (at 12), edit-no-position (else); edit-bad (how many samples are bad), edit-bad-one (1 at 11); edit-never-12 (of a true smoothing).
 use mathlib.Core.Path.{_≡_, refl, sym, _∙_, ap}
 use mathlib.Core.Logic.{⊎-elim, ⊎-map}
 use mathlib.Core.Bool.{Bool, true, false, _&&_, _||_, true≢false}
@@ -178,8 +178,8 @@ module _ (φ : IndexMap) (ss : List Stage) (M p : ℕ) (v : ℤ) (f r : List ℤ
     pub edit-old : x .number ≡ 11 → (x .position ≡ p) × (M < natAbs (at f p))
     edit-old n = let (i, l, b) = placed e .sample n in (i, l)
 
-    pub edit-one : x .number ≡ 11 → x .bad ≡ 1
-    edit-one n = placed e .sample n .2
+    pub edit-bad-one : x .number ≡ 11 → x .bad ≡ 1
+    edit-bad-one n = placed e .sample n .2
 
     pub edit-place : x .number ≡ 12 → FirstAt (length r) Offends (x .position)
     edit-place n = placed e .result n .1

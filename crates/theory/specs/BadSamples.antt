@@ -1,8 +1,8 @@
 -- What an answer says of the samples that row 11 tests.
 -- Laws: none-behind (no row stands behind row 11); bad-counted (of rows with no position, then row 11, then others).
-use mathlib.Core.Path.{_≡_, refl, sym, ap, _∙_}
+use mathlib.Core.Path.{_≡_, refl, ap, _∙_}
 use mathlib.Core.Logic.{_⊎_, inl, inr, ⊎-elim}
-use mathlib.Core.Bool.{Bool, true, true≢false}
+use mathlib.Core.Bool.{Bool, true}
 use mathlib.Core.List.{List, [], _∷_, _++_}
 use mathlib.Mathlib.Data.Bool.Basic.{eq-true-of-not-eq-false}
 use Prim.Native.Nat.{ℕ, _<_}
@@ -10,7 +10,7 @@ use native.Mathlib.Omega.{arith}
 use Rattle.meaning.specs.Refusals.{Answer, Row, firstOf, Applies, here, rowAt}
 use Rattle.meaning.specs.Bounds.{HowMany, Counted}
 use Rattle.theory.specs.Refusals.{Numbered, Rising, Unplaced, first-parts, number-lowest, number-exactly, applies-append}
-use Rattle.theory.specs.Counts.{how-many, how-many-none, how-many-some}
+use Rattle.theory.specs.Counts.{count-none, how-many, how-many-one, how-many-some}
 use Rattle.theory.specs.Places.{OfRow, rowAt-none, rowAt-answer}
 
 pub none-behind : {a : Answer} → a ≡ firstOf [] → (a .number ≡ 11 → ⊥) × (a .bad ≡ 0)
@@ -24,7 +24,7 @@ module _ (front rest : List Row) (u : Unplaced 11 front) (N : ℕ) (t : ℕ → 
   -- where one is bad, row 11 applies
   applies-11 : {k : ℕ} → HowMany P N k → (k ≡ 0 → ⊥) → Applies 11 rows
   unfolding rowAt
-  applies-11 h n = applies-append front (here refl (eq-true-of-not-eq-false (λ e. n (how-many-none N h (λ i l p. true≢false (sym (from i l p) ∙ rowAt-none 11 N t e i l))))))
+  applies-11 h n = applies-append front (here refl (eq-true-of-not-eq-false (λ e. n (how-many-one N h (how-many N t to from) ∙ count-none N (rowAt-none 11 N t e)))))
 
   module _ {a : Answer} (e : a ≡ firstOf rows) (others : a ≡ firstOf rest → (a .number ≡ 11 → ⊥) × (a .bad ≡ 0)) where
     either : OfRow 11 N t a ⊎ ((a .number ≡ 11 → ⊥) × (a .bad ≡ 0))
@@ -45,7 +45,7 @@ module _ (front rest : List Row) (u : Unplaced 11 front) (N : ℕ) (t : ℕ → 
     pub bad-counted : Rising rows → Numbered rows → Counted P N rows a
     bad-counted r m = record {
       count = count-11;
-      some = some-11;
+      nonzero = some-11;
       lowest = λ n j l on. let m = number-lowest rows number r .1 j on in omega arith;
       other = λ n. ⊎-elim (λ p. absurd (n (p .number))) (λ p. p .1) either;
       given = λ h k lower. number-exactly rows number r m (applies-11 h k) lower;

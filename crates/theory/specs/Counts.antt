@@ -1,6 +1,6 @@
 -- At how many places a test is true, and how many results changed.
--- Laws: count-ext, count-none, count-more (one place more), count-at (at one place alone), count-within; how-many (so many have the property tested), how-many-none, how-many-some; changed-none, changed-where.
-use mathlib.Core.Path.{_≡_, refl, sym, subst, _∙_}
+-- Laws: count-ext, count-none, count-more (one place more), count-at (at one place alone), count-within; how-many (so many have the property tested), how-many-one (it is one number), how-many-some; changed-none, changed-where.
+use mathlib.Core.Path.{_≡_, refl, sym, ap, subst, _∙_}
 use mathlib.Core.Logic.{_≢_}
 use mathlib.Core.Bool.{Bool, true, false, cond, _&&_, _||_, true≢false}
 use mathlib.Core.List.{List}
@@ -64,10 +64,12 @@ how-many (suc N) t {P} to from = go (t N) (to N (omega arith)) (from N (omega ar
     go false to from h = simp unary-clauses (no-more (λ p. true≢false (sym (from p))) h)
 
 module _ {P : ℕ → Type 0} where
-  pub how-many-none : (N : ℕ) {k : ℕ} → HowMany P N k → ((i : ℕ) → i < N → P i → ⊥) → k ≡ 0
-  how-many-none zero none e = refl
-  how-many-none (suc N) (one-more p h) e = absurd (e N (omega arith) p)
-  how-many-none (suc N) (no-more p h) e = how-many-none N h (λ i l. e i (omega arith))
+  pub how-many-one : (N : ℕ) {k m : ℕ} → HowMany P N k → HowMany P N m → k ≡ m
+  how-many-one zero none none = refl
+  how-many-one (suc N) (one-more p h) (one-more q g) = ap suc (how-many-one N h g)
+  how-many-one (suc N) (one-more p h) (no-more q g) = absurd (q p)
+  how-many-one (suc N) (no-more p h) (one-more q g) = absurd (p q)
+  how-many-one (suc N) (no-more p h) (no-more q g) = how-many-one N h g
 
   pub how-many-some : (N i : ℕ) {k : ℕ} → HowMany P N k → i < N → P i → 0 < k
   how-many-some zero i none l p = absurd (omega arith)

@@ -1,10 +1,10 @@
--- A number from -most to most is no larger than most.
-use Prim.Native.Nat.{zero, suc, _≤_}
-use mathlib.Core.Path.{_≡_, sym}
+-- A number from -most to most is no larger than most, and one below is.
+use Prim.Native.Nat.{zero, suc}
+use mathlib.Core.Path.{_≡_, refl, sym}
 use mathlib.Core.Bool.{true, false, true≢false}
 use native.Mathlib.Omega.{arith}
-use borrow.Author.Tests.{ltb-false, leb-true}
-use lib.Dec.{T}
+use borrow.Author.Tests.{ltb-true, ltb-false, le-leb, lt-leb}
+use lib.Dec.{T, leb}
 use lib.IntN.{ℤ, pos, negsuc, natAbs, negℤ, +ℤ-idl}
 use lib.Signed.{ltZ, leZ, nonNeg}
 use mir.Syntax.{w32}
@@ -17,21 +17,29 @@ turned-fits : (m : ℤ) → T (nonNeg m) → SFits w32 m → SFits w32 (negℤ m
 turned-fits (pos zero) n f = omega arith
 turned-fits (pos (suc k)) n f = omega (arith, f .sfits)
 
-between : (m x : ℤ) → T (nonNeg m) → ltZ x (negℤ m) ≡ false → leZ x m ≡ true → natAbs x ≤ natAbs m
-between (pos k) (pos n) h low high = leb-true n k high
-between (pos zero) (negsuc n) h low high = absurd (true≢false low)
-between (pos (suc k)) (negsuc n) h low high = omega (arith, ltb-false k n low)
+below : (m x : ℤ) → T (nonNeg m) → ltZ x (negℤ m) ≡ true → false ≡ leb (natAbs x) (natAbs m)
+below (pos zero) (pos n) h low = let no : ⊥ = omega (arith, ltb-true n 0 low) in absurd no
+below (pos zero) (negsuc n) h low = sym (lt-leb (suc n) 0 (omega arith))
+below (pos (suc k)) (pos n) h low = absurd (true≢false (sym low))
+below (pos (suc k)) (negsuc n) h low = sym (lt-leb (suc n) (suc k) (omega (arith, ltb-true k n low)))
+
+between : (m x : ℤ) → T (nonNeg m) → ltZ x (negℤ m) ≡ false → leZ x m ≡ leb (natAbs x) (natAbs m)
+between (pos k) (pos n) h low = refl
+between (pos zero) (negsuc n) h low = absurd (true≢false low)
+between (pos (suc k)) (negsuc n) h low = sym (le-leb (suc n) (suc k) (omega (arith, ltb-false k n low)))
 
 sub-if1 : tie.Need-sub-if1
 sub-if1 c = rw (toZ-ofZ (c .fits .most), +ℤ-idl (negℤ (c .args .most))) (turned-fits (c .args .most) (c .pre) (c .fits .most))
 
 returns : tie.Need-returns
-returns c e = absurd (true≢false (sym e))
+returns c =
+    let s = c .before in
+    below (s .args .most) (s .args .x) (s .pre) (rw (toZ-ofZ (sub-if1 s), toZ-ofZ (s .fits .most), toZ-ofZ (s .fits .x), +ℤ-idl (negℤ (s .args .most))) at (c .if1 .taken))
 
 returns-2 : tie.Need-returns-2
-returns-2 c e =
+returns-2 c =
     let s = c .before in
-    between (s .args .most) (s .args .x) (s .pre) (rw (toZ-ofZ (sub-if1 s), toZ-ofZ (s .fits .most), toZ-ofZ (s .fits .x), +ℤ-idl (negℤ (s .args .most))) at (c .if1 .left)) (rw (toZ-ofZ (s .fits .x), toZ-ofZ (s .fits .most)) at e)
+    rw (toZ-ofZ (s .fits .x), toZ-ofZ (s .fits .most)) (between (s .args .most) (s .args .x) (s .pre) (rw (toZ-ofZ (sub-if1 s), toZ-ofZ (s .fits .most), toZ-ofZ (s .fits .x), +ℤ-idl (negℤ (s .args .most))) at (c .if1 .left)))
 
 pub is-acceptable-spec : {M : Type 1} → statement M
 is-acceptable-spec = tie.close (tie.spec sub-if1 returns returns-2)
