@@ -19,7 +19,7 @@ pub struct Answer {
     pub position: usize,
 }
 
-// What a call answers that tests samples. Position is the first that is not acceptable, and bad how many are not: both are 0 but at 11.
+// What a call answers that tests samples. Of those it tests, position is the first that is not acceptable, and bad how many are not: both are 0 but at 11.
 pub struct Checked {
     pub number: u64,
     pub position: usize,

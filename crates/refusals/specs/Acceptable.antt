@@ -4,18 +4,17 @@
 use Prim.Native.Nat.{ℕ, _≤_, _<_}
 use mathlib.Core.Path.{_≡_, sym}
 use mathlib.Core.List.{List, [], _∷_}
-use borrow.Author.Tests.{ltb-true, leb-true, le-ltb}
-use lib.ListN.{length}
+use borrow.Author.Tests.{ltb-true, leb-true}
 use lib.IntN.{ℤ, natAbs}
 use Rattle.meaning.specs.Extension.{at}
 use Rattle.meaning.specs.Refusals.{firstOf, within}
 use Rattle.meaning.specs.Calls.{sampleRow}
 use Rattle.theory.specs.Refusals.{done, off-done}
-use Rattle.theory.specs.Places.{rowAt-off}
-use Rattle.theory.specs.Tests.{and-yes, no-and}
+use Rattle.theory.specs.BadSamples.{sample-off}
+use Rattle.theory.specs.Tests.{and-yes}
 
 abbrev pub Acceptable : ℕ → List ℤ → ℕ → ℕ → Type 0
 Acceptable M f start end = (i : ℕ) → i < end → start ≤ i → natAbs (at f i) ≤ M
 
 pub acceptable-done : (M : ℕ) (f : List ℤ) (start end : ℕ) → Acceptable M f start end → done ≡ firstOf (sampleRow M f (within start end) ∷ [])
-acceptable-done M f start end h = sym (off-done _ (rowAt-off 11 (length f) (λ i l. no-and (within start end i) _ (λ t. let (a, b) = and-yes _ _ t in le-ltb _ _ (h i (ltb-true _ _ b) (leb-true _ _ a)))), tt))
+acceptable-done M f start end h = sym (off-done _ (sample-off M f (within start end) (λ i l t. let (a, b) = and-yes _ _ t in h i (ltb-true _ _ b) (leb-true _ _ a)), tt))

@@ -44,9 +44,9 @@ pub(crate) fn all_acceptable(bound: u64, samples: &[i32], start: usize, end: usi
     acceptable
 }
 
-// Row 11, with the bad samples counted. From the last down, so that the place kept is the first.
+// Row 11, with the bad samples counted. From the last down, so that the place kept is the first. The answer would be right where none is bad, too: that it asks for one keeps a call from counting where it need not.
 pub(crate) fn tally(bound: u64, samples: &[i32], start: usize, end: usize) -> Checked
-    requires { ⌜ end ≤ length (now samples) ⌝ }
+    requires { ⌜ (end ≤ length (now samples)) × (bound ≤ maxBound → Acceptable bound (now samples) start end → ⊥) ⌝ }
     ensures { λ r. ⌜ checkedAnswer r ≡ R.firstOf (C.sampleRow bound (now (samples .entry)) (R.within start end) ∷ []) ⌝ }
 {
     let mut answer = Checked {

@@ -23,7 +23,7 @@ use Rattle.theory.specs.Local.{near-yes, near-true}
 use Rattle.theory.specs.Refusals.{done, Off, Numbered, Rising, Unplaced, done-off, off-done, first-parts, off-append, append-off}
 use Rattle.theory.specs.Counts.{count-at}
 use Rattle.theory.specs.Places.{OfRow, rowAt-off, rowAt-none, rowAt-answer, first-map}
-use Rattle.theory.specs.BadSamples.{none-behind, bad-counted}
+use Rattle.theory.specs.BadSamples.{sample-off, off-sample, none-behind, bad-counted}
 use Rattle.theory.specs.Tests.{or-no, no-or, or-yes, yes-or, and-yes, yes-and, and-no, no-and, and-when, differs-no, no-differs}
 use Rattle.theory.specs.Edits.{resultRow, gained-near, fresh-passes}
 use Rattle.theory.specs.Placed.{placedRows, off-placed, placed-off}
@@ -66,10 +66,10 @@ module _ (ss : List Stage) (M p : ℕ) (v : ℤ) (f : List ℤ) (nr nw : ℕ) wh
 
 -- ---- rows 11 and 12
 pub old-passes : (M p : ℕ) (f : List ℤ) → p < length f → sampleRow M f (λ i. eqb i p) .applies ≡ false → natAbs (at f p) ≤ M
-old-passes M p f l e = ltb-false _ _ (and-no (eqb p p) _ (rowAt-none 11 (length f) _ e p l) (eq-eqb p p refl))
+old-passes M p f l e = off-sample M f (λ i. eqb i p) e p l (eq-eqb p p refl)
 
 passes-old : (M p : ℕ) (f : List ℤ) → natAbs (at f p) ≤ M → sampleRow M f (λ i. eqb i p) .applies ≡ false
-passes-old M p f h = rowAt-off 11 (length f) (λ i l. no-and (eqb i p) _ (λ t. rw (eqb-true i p t) (le-ltb _ _ h)))
+passes-old M p f h = sample-off M f (λ i. eqb i p) (λ i l t. rw (eqb-true i p t) h)
 
 module _ (φ : IndexMap) (ss : List Stage) (L p : ℕ) (d : ℤ) (r : List ℤ) where
   abbrev after : ℕ → ℤ

@@ -7,7 +7,7 @@ use Prim.Native.Nat.{ℕ, _≤_, _<_}
 use native.Mathlib.Omega.{arith}
 use lib.ListN.{length}
 use lib.IntN.{ℤ, pos, natAbs}
-use borrow.Author.Tests.{ltb-true, ltb-false, lt-ltb, le-ltb}
+use borrow.Author.Tests.{ltb-true, lt-ltb}
 use Rattle.meaning.specs.Extension.{at, IndexMap}
 use Rattle.meaning.specs.Kernel.{Stage, reach, divisor}
 use Rattle.meaning.specs.Smoothing.{result, apart, near}
@@ -18,9 +18,9 @@ use Rattle.meaning.specs.Bounds.{AllowedPoint, FirstAt, Counted}
 use Rattle.theory.specs.Folding.{Nearness}
 use Rattle.theory.specs.Local.{near-yes, near-true, result-local}
 use Rattle.theory.specs.Refusals.{done, Numbered, Rising, Unplaced, done-off, off-done, off-append, append-off, ifDone-ext}
-use Rattle.theory.specs.BadSamples.{none-behind, bad-counted}
-use Rattle.theory.specs.Places.{rowAt-ext, rowAt-off, rowAt-none, place-here, place-other, first-map}
-use Rattle.theory.specs.Tests.{and-yes, yes-and, and-no, no-and, and-when, differs-no, no-differs}
+use Rattle.theory.specs.BadSamples.{sample-off, off-sample, none-behind, bad-counted}
+use Rattle.theory.specs.Places.{rowAt-ext, place-here, place-other, first-map}
+use Rattle.theory.specs.Tests.{and-yes, yes-and, and-when, differs-no, no-differs}
 use Rattle.theory.specs.Placed.{placedRows, off-placed, placed-off}
 
 module _ (ss : List Stage) (M n : ℕ) (f : List ℤ) (nw : ℕ) where
@@ -54,12 +54,12 @@ module _ (ss : List Stage) (M n : ℕ) (f : List ℤ) (nw : ℕ) where
         common = ok;
         work = differs-no _ _ w;
         position = l;
-        samples = λ i l k. ltb-false _ _ (and-no (near ss i n) _ (rowAt-none 11 (length f) _ (t .0) i l) (near-yes ss i n k));
+        samples = λ i l k. off-sample M f (λ i. near ss i n) (t .0) i l (near-yes ss i n k);
       }
 
   pub allowed-point : AllowedPoint ss M n f nw → firstOf rows ≡ done
   allowed-point ok =
-      let samples = rowAt-off 11 (length f) (λ i l. no-and (near ss i n) _ (λ t. le-ltb _ _ (ok .samples i l (near-true ss i n t)))) in
+      let samples = sample-off M f (λ i. near ss i n) (λ i l t. ok .samples i l (near-true ss i n t)) in
       rw parts (off-done _ (off-append front _ (placed-off ss M (length f) _ n (ok .common) (no-differs (ok .work)) (ok .position)) (samples, tt)))
 
   -- the test by what it tests

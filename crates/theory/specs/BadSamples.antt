@@ -1,17 +1,30 @@
 -- What an answer says of the samples that row 11 tests.
--- Laws: none-behind (no row stands behind row 11); bad-counted (of rows with no position, then row 11, then others).
+-- Laws: sample-off, off-sample (row 11 does not apply exactly where each sample tested has a size up to M); none-behind (no row stands behind row 11); bad-counted (of rows with no position, then row 11, then others).
 use mathlib.Core.Path.{_≡_, refl, ap, _∙_}
 use mathlib.Core.Logic.{_⊎_, inl, inr, ⊎-elim}
-use mathlib.Core.Bool.{Bool, true}
+use mathlib.Core.Bool.{Bool, true, false}
 use mathlib.Core.List.{List, [], _∷_, _++_}
 use mathlib.Mathlib.Data.Bool.Basic.{eq-true-of-not-eq-false}
-use Prim.Native.Nat.{ℕ, _<_}
+use Prim.Native.Nat.{ℕ, _≤_, _<_}
 use native.Mathlib.Omega.{arith}
+use lib.ListN.{length}
+use lib.IntN.{ℤ, natAbs}
+use borrow.Author.Tests.{ltb-false, le-ltb}
+use Rattle.meaning.specs.Extension.{at}
 use Rattle.meaning.specs.Refusals.{Answer, Row, firstOf, Applies, here, rowAt}
+use Rattle.meaning.specs.Calls.{sampleRow}
 use Rattle.meaning.specs.Bounds.{HowMany, Counted}
 use Rattle.theory.specs.Refusals.{Numbered, Rising, Unplaced, first-parts, number-lowest, number-exactly, applies-append}
 use Rattle.theory.specs.Counts.{count-none, how-many, how-many-one, how-many-some}
-use Rattle.theory.specs.Places.{OfRow, rowAt-none, rowAt-answer}
+use Rattle.theory.specs.Tests.{and-no, no-and}
+use Rattle.theory.specs.Places.{OfRow, rowAt-off, rowAt-none, rowAt-answer}
+
+module _ (M : ℕ) (f : List ℤ) (tested : ℕ → Bool) where
+  pub sample-off : ((i : ℕ) → i < length f → tested i ≡ true → natAbs (at f i) ≤ M) → sampleRow M f tested .applies ≡ false
+  sample-off h = rowAt-off 11 (length f) (λ i l. no-and (tested i) _ (λ t. le-ltb _ _ (h i l t)))
+
+  pub off-sample : sampleRow M f tested .applies ≡ false → (i : ℕ) → i < length f → tested i ≡ true → natAbs (at f i) ≤ M
+  off-sample e i l t = ltb-false _ _ (and-no (tested i) _ (rowAt-none 11 (length f) _ e i l) t)
 
 pub none-behind : {a : Answer} → a ≡ firstOf [] → (a .number ≡ 11 → ⊥) × (a .bad ≡ 0)
 unfolding firstOf
