@@ -2,7 +2,8 @@
 // lowest that applies, so that of a case of two numbers it does not tell whether the other applies at all.
 // The arguments are those that the stream hands out.
 import {
-  MOST_BOUND, MOST_CELLS, MOST_INNER, MOST_PASSES, MOST_PRODUCT, MOST_RADIUS, MOST_SIDE, MOST_SIGMA, outside, size,
+  MOST_BOUND, MOST_CELLS, MOST_INNER, MOST_MODE, MOST_PASSES, MOST_PRODUCT, MOST_RADIUS, MOST_SIDE, MOST_SIGMA,
+  outside, size,
 } from './limits.mjs';
 import { divisorOf, reachOf } from './smoothing.mjs';
 
@@ -75,6 +76,7 @@ const ROWS = {
   11: (args) => samplesWrong(args) > 0,
   12: resultsWrong,
   13: ({ sigma }) => outside(sigma, 1n, MOST_SIGMA),
+  21: ({ mode }) => mode > MOST_MODE,
 };
 
 export function applies(number, args) {

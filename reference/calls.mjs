@@ -3,7 +3,8 @@
 // Whole numbers are BigInt, since any 64-bit number may be asked; a plain number in an answer is a double.
 // Samples and whole cells are Int32Array, results and work BigInt64Array, doubles Float64Array.
 import {
-  MOST_BOUND, MOST_CELLS, MOST_INNER, MOST_PASSES, MOST_PRODUCT, MOST_RADIUS, MOST_SIDE, MOST_SIGMA, outside, size,
+  MOST_BOUND, MOST_CELLS, MOST_INNER, MOST_MODE, MOST_PASSES, MOST_PRODUCT, MOST_RADIUS, MOST_SIDE, MOST_SIGMA,
+  outside, size,
 } from './limits.mjs';
 import {
   divisorOf, kernelOf, pictureResults, planFor, reachOf, resultAt, seriesResults, weightAt,
@@ -228,9 +229,13 @@ function floorOfQuotient(over, under) {
   return over < quotient * under ? quotient - 1n : quotient;
 }
 
-// The nearest whole number, a half going upward.
-export function asWhole(result, divisor) {
-  return Number(floorOfQuotient(2n * result + divisor, 2n * divisor));
+// The nearest whole number. Of two as near, mode 0 takes the even one and mode 1 the one above.
+export function asWhole(result, divisor, mode) {
+  const below = floorOfQuotient(result, divisor);
+  const above = below + 1n;
+  const [farBelow, farAbove] = [below, above].map((whole) => size(result - whole * divisor));
+  if (farBelow === farAbove) return Number(mode === 1n || above % 2n === 0n ? above : below);
+  return Number(farBelow < farAbove ? below : above);
 }
 
 // Both numbers are below 2^53 and so converted exactly; a BigInt zero has no sign.
@@ -296,9 +301,19 @@ function carryOut(refused, { results, cells }, divisor) {
   return refused ? { ...refused, carry: 0n, cells } : { ...DONE, ...asCarried(results, divisor) };
 }
 
+// Whole numbers out. A form of the call without a mode means mode 0.
+function wholeOut(refused, args, divisor) {
+  const { mode = 0n } = args;
+  return cellsOut(refused, args, divisor, (result) => asWhole(result, divisor, mode));
+}
+
+function modeRefused({ mode = 0n }) {
+  return refuseIf(mode > MOST_MODE, 21);
+}
+
 export function wholeSeries(args) {
-  const refused = seriesOutputRefused(args);
-  return cellsOut(refused, args, refused ? null : divisorOf(args.plan), asWhole);
+  const refused = seriesOutputRefused(args) ?? modeRefused(args);
+  return wholeOut(refused, args, refused ? null : divisorOf(args.plan));
 }
 
 export function doublesSeries(args) {
@@ -317,8 +332,8 @@ export function carrySeries(args) {
 }
 
 export function wholePicture(args) {
-  const refused = pictureOutputRefused(args);
-  return cellsOut(refused, args, refused ? null : divisorOfAll([args.across, args.down]), asWhole);
+  const refused = pictureOutputRefused(args) ?? modeRefused(args);
+  return wholeOut(refused, args, refused ? null : divisorOfAll([args.across, args.down]));
 }
 
 export function doublesPicture(args) {

@@ -1,4 +1,5 @@
-// Cases of calls 6 to 12: doubles in, and whole numbers, doubles and summary of a series and of a picture.
+// Cases of calls 6, 8, 9, 11 and 12: doubles in, and doubles and summary of a series and of a picture; and what their
+// cases share with those of whole numbers out.
 import { divisorOf } from './smoothing.mjs';
 import {
   BAD_SAMPLES, EIGHT, EXACT, EXACT_BOUND, FIVE, LARGE, LARGE_BOUND, LARGE_MOST, LARGEST_I64, LEAST_I32, LEAST_I64,
@@ -72,7 +73,7 @@ function doublesInCases() {
   return [...single, ...DOUBLES_EDGES, ...doublesInFaults(), ...chosen];
 }
 
-// The outputs, calls 7 to 12, and what their cases share with those of calls 15 and 16.
+// The outputs.
 // One list of results serves all three: a series as it stands, a picture by sides.
 // A case of the list is a note, a plan, a bound and results; a picture's is two plans, a bound, sides and results.
 
@@ -101,7 +102,7 @@ export const LIMIT_LISTS = [
   ['65,537 results', EIGHT, 9, filled(65_537, 99)],
 ];
 
-const RESULT_LISTS = [
+export const RESULT_LISTS = [
   ['example', EIGHT, 4, [16, 12, 4]],
   ['example, negated', EIGHT, 4, [-16, -12, -4]],
   ['halves of 2', TWO, 9, [-5, -4, -3, -2, -1, 0, 1, 2, 3, 4, 5]],
@@ -168,19 +169,26 @@ function resultFaults() {
   ];
 }
 
-// The cases of a call that puts results out: these lists, chosen ones, and refusals.
-export function seriesOutputs(call, cells, lists) {
+// The cases of a call that puts results out: these lists and chosen ones; refusals; both.
+export function listedSeries(call, cells, lists) {
   const all = [...lists, ...chosenSeriesLists(chance(200 + call))];
-  const listed = all.map(([note, chosen, bound, results]) => (
+  return all.map(([note, chosen, bound, results]) => (
     { note, args: withCells({ plan: chosen, bound, results }, cells) }));
-  const good = withCells({ plan: EIGHT, bound: 1000, results: [5, -3] }, cells);
-  const faults = [
+}
+
+export function seriesFaults(call, cells, more = {}, moreFaults = []) {
+  const good = withCells({ plan: EIGHT, bound: 1000, ...more, results: [5, -3] }, cells);
+  return faultCases(call, good, [
     ...SERIES_LIMITS,
     fault(7, 'no results', () => (cells ? { results: [], cells: [] } : { results: [] })),
     ...(cells ? lengthFaults('cells') : []),
     ...resultFaults(),
-  ];
-  return [...listed, ...faultCases(call, good, faults)];
+    ...moreFaults,
+  ]);
+}
+
+export function seriesOutputs(call, cells, lists) {
+  return [...listedSeries(call, cells, lists), ...seriesFaults(call, cells)];
 }
 
 // The lists again as pictures of one row or column, with the plan across or down; and pictures proper.
@@ -189,8 +197,8 @@ export function sidesOf(length, n) {
   return n % 2 === 0 ? [length, 1] : [1, length];
 }
 
-function listedPictures() {
-  return RESULT_LISTS.filter(([, , , results]) => results.length < 100).map(([note, chosen, bound, results], n) => {
+export function asPictures(lists) {
+  return lists.filter(([, , , results]) => results.length < 100).map(([note, chosen, bound, results], n) => {
     const plans = n % 2 === 0 ? [chosen, ONE] : [ONE, chosen];
     return [note, plans, bound, sidesOf(results.length, n), results];
   });
@@ -214,11 +222,11 @@ export const PICTURE_LIMIT_LISTS = [
   ['results one long', [THREE, EIGHT], 10, [2, 2], [1, 2, 3, 4, 5]],
 ];
 
-const PICTURE_LISTS = [
+export const PICTURE_LISTS = [
   ['example', [FIVE, FIVE], 1, [2, 2], [16, 4, 4, 1]],
   ['divisor is the product', [THREE, EIGHT], 10, [3, 2], [240, -240, 12, -12, 36, -36]],
   ...PICTURE_LIMIT_LISTS,
-  ...listedPictures(),
+  ...asPictures(RESULT_LISTS),
 ];
 
 function chosenPictureLists(below) {
@@ -232,25 +240,30 @@ function chosenPictureLists(below) {
   });
 }
 
-export function pictureOutputs(call, cells, lists) {
+export function listedPictures(call, cells, lists) {
   const all = [...lists, ...chosenPictureLists(chance(200 + call))];
-  const listed = all.map(([note, [across, down], bound, [width, height], results]) => (
+  return all.map(([note, [across, down], bound, [width, height], results]) => (
     { note, args: withCells({ across, down, bound, width, height, results }, cells) }));
-  const good = withCells({ across: EIGHT, down: THREE, bound: 1000, width: 1, height: 2, results: [5, -3] }, cells);
-  const faults = [
+}
+
+export function pictureFaults(call, cells, more = {}, moreFaults = []) {
+  const sides = { across: EIGHT, down: THREE, bound: 1000, width: 1, height: 2 };
+  return faultCases(call, withCells({ ...sides, ...more, results: [5, -3] }, cells), [
     ...PICTURE_LIMITS,
     ...lengthFaults('results'), ...(cells ? lengthFaults('cells') : []),
     ...resultFaults(),
-  ];
-  return [...listed, ...faultCases(call, good, faults)];
+    ...moreFaults,
+  ]);
+}
+
+export function pictureOutputs(call, cells, lists) {
+  return [...listedPictures(call, cells, lists), ...pictureFaults(call, cells)];
 }
 
 export const casesOfOutputs = {
   6: doublesInCases,
-  7: () => seriesOutputs(7, WHOLE_CELLS, RESULT_LISTS),
   8: () => seriesOutputs(8, DOUBLE_CELLS, RESULT_LISTS),
   9: () => seriesOutputs(9, NO_CELLS, RESULT_LISTS),
-  10: () => pictureOutputs(10, WHOLE_CELLS, PICTURE_LISTS),
   11: () => pictureOutputs(11, DOUBLE_CELLS, PICTURE_LISTS),
   12: () => pictureOutputs(12, NO_CELLS, PICTURE_LISTS),
 };

@@ -5,6 +5,7 @@ import { casesOfPictures } from './cases-pictures.mjs';
 import { casesOfEdits } from './cases-edits.mjs';
 import { casesOfPoints } from './cases-points.mjs';
 import { casesOfOutputs } from './cases-outputs.mjs';
+import { casesOfWhole } from './cases-whole.mjs';
 import { casesOfCarries } from './cases-carry.mjs';
 import { casesOfRecords } from './cases-records.mjs';
 import { casesOfPlanner } from './cases-planner.mjs';
@@ -22,21 +23,23 @@ export const NUMBERS_GIVEN = {
   4: [0, 1, 2, 3, 4, 5, 6, 7, 8, 9, 11],
   5: [0, 1, 3, 13],
   6: [0, 5, 7, 8, 11],
-  7: [0, 1, 2, 3, 4, 5, 6, 7, 8, 12],
+  7: [0, 1, 2, 3, 4, 5, 6, 7, 8, 12, 21],
   8: [0, 1, 2, 3, 4, 5, 6, 7, 8, 12],
   9: [0, 1, 2, 3, 4, 5, 6, 7, 12],
-  10: [0, 1, 2, 3, 4, 5, 6, 7, 8, 12],
+  10: [0, 1, 2, 3, 4, 5, 6, 7, 8, 12, 21],
   11: [0, 1, 2, 3, 4, 5, 6, 7, 8, 12],
   12: [0, 1, 2, 3, 4, 5, 6, 7, 8, 12],
   13: [0, 14],
   14: [0, 7, 8],
   15: [0, 1, 2, 3, 4, 5, 6, 7, 8, 12],
   16: [0, 1, 2, 3, 4, 5, 6, 7, 8, 12],
+  107: [0, 1, 2, 3, 4, 5, 6, 7, 8, 12],
+  110: [0, 1, 2, 3, 4, 5, 6, 7, 8, 12],
 };
 
 const CASES = {
-  ...casesOfSmoothing, ...casesOfPictures, ...casesOfEdits, ...casesOfPoints, ...casesOfOutputs, ...casesOfCarries,
-  ...casesOfRecords, ...casesOfPlanner, ...casesOfPlans,
+  ...casesOfSmoothing, ...casesOfPictures, ...casesOfEdits, ...casesOfPoints, ...casesOfOutputs, ...casesOfWhole,
+  ...casesOfCarries, ...casesOfRecords, ...casesOfPlanner, ...casesOfPlans,
 };
 
 // The cases of a call: a note and the call's words.

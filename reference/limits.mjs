@@ -8,6 +8,7 @@ export const MOST_PRODUCT = 2n ** 53n - 1n;
 export const MOST_CELLS = 65_536n;
 export const MOST_SIDE = 4_096n;
 export const MOST_SIGMA = 25_600n;
+export const MOST_MODE = 1n;
 
 export function size(value) {
   return value < 0n ? -value : value;

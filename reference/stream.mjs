@@ -43,7 +43,7 @@ export const CALLS = {
   },
   7: {
     name: 'whole-series', run: calls.wholeSeries,
-    takes: { ...SERIES, results: 'i64s', cells: 'i32s' }, prints: ['number', 'position', 'cells'],
+    takes: { ...SERIES, mode: 'u64', results: 'i64s', cells: 'i32s' }, prints: ['number', 'position', 'cells'],
   },
   8: {
     name: 'doubles-series', run: calls.doublesSeries,
@@ -55,7 +55,7 @@ export const CALLS = {
   },
   10: {
     name: 'whole-picture', run: calls.wholePicture,
-    takes: { ...PICTURE, results: 'i64s', cells: 'i32s' }, prints: ['number', 'position', 'cells'],
+    takes: { ...PICTURE, mode: 'u64', results: 'i64s', cells: 'i32s' }, prints: ['number', 'position', 'cells'],
   },
   11: {
     name: 'doubles-picture', run: calls.doublesPicture,
@@ -94,6 +94,15 @@ export const CALLS = {
   102: {
     name: 'planner-all', run: calls.plannerOfAll,
     takes: { passes: 'u64', inner: 'u64' }, prints: ['count', 'planned'],
+  },
+  // Calls 7 and 10 in the form without a mode.
+  107: {
+    name: 'whole-series-default', run: calls.wholeSeries,
+    takes: { ...SERIES, results: 'i64s', cells: 'i32s' }, prints: ['number', 'position', 'cells'],
+  },
+  110: {
+    name: 'whole-picture-default', run: calls.wholePicture,
+    takes: { ...PICTURE, results: 'i64s', cells: 'i32s' }, prints: ['number', 'position', 'cells'],
   },
 };
 

@@ -62,8 +62,13 @@ function otherExamples() {
   }
 
   const eight = plan(1, 2, 1, 1);
-  same('whole', wholeSeries(outputArgs(eight, 4, [16, 12, 4], Int32Array)).cells, [2, 2, 1]);
-  same('whole, negated', wholeSeries(outputArgs(eight, 4, [-16, -12, -4], Int32Array)).cells, [-2, -1, 0]);
+  const whole = (results, more) => wholeSeries({ ...outputArgs(eight, 4, results, Int32Array), ...more }).cells;
+  same('whole, upward', whole([16, 12, 4], { mode: 1n }), [2, 2, 1]);
+  same('whole, upward, negated', whole([-16, -12, -4], { mode: 1n }), [-2, -1, 0]);
+  for (const form of [{ mode: 0n }, {}]) {
+    same('whole', whole([16, 12, 4], form), [2, 2, 0]);
+    same('whole, negated', whole([-16, -12, -4], form), [-2, -2, 0]);
+  }
 
   const large = plan(1, 2, 1, 8);
   same('divisor', divisorOf(large), 16_777_216);

@@ -1,19 +1,62 @@
 // The outputs and doubles in against facts that the requirements tell of them.
 import { asWhole, doublesIn, doublesPicture, summaryPicture, wholePicture } from './calls.mjs';
+import { casesOf } from './cases.mjs';
 import { chance } from './inputs.mjs';
+import { size } from './limits.mjs';
+import { divisorOf } from './smoothing.mjs';
+import { CALLS, decoded } from './stream.mjs';
 import { holds, plan, same } from './testing.mjs';
 
-function outputFacts() {
+// Both modes give a nearest whole number, and differ where there are two.
+function roundingFacts(result, divisor) {
+  const [even, up] = [0n, 1n].map((mode) => BigInt(asWhole(result, divisor, mode)));
+  const name = `${result} over ${divisor}`;
+  for (const cell of [even, up]) holds(`nearest of ${name}`, 2n * size(result - cell * divisor) <= divisor);
+  if (2n * size(result - up * divisor) < divisor) {
+    same(`one nearest of ${name}`, even, up);
+  } else {
+    holds(`even of ${name}`, even % 2n === 0n);
+    holds(`upward of ${name}`, up * divisor > result);
+  }
+  same(`negated, ${name}`, BigInt(asWhole(-result, divisor, 0n)), -even);
+}
+
+function wholeFacts() {
   const below = chance(3);
   for (let n = 0; n < 200; n++) {
     const divisor = BigInt(1 + below(n < 100 ? 9 : 2 ** 31));
     const result = BigInt(below(2 ** 50) - 2 ** 49);
-    const over = 2n * result - 2n * BigInt(asWhole(result, divisor)) * divisor;
-    holds(`nearest whole of ${result} over ${divisor}`, -divisor <= over && over < divisor);
+    roundingFacts(result, divisor);
+    roundingFacts(result - result % (2n * divisor) + divisor, 2n * divisor);
   }
+}
+
+// The cases of whole numbers out: halves over even and odd quotients of both signs, in every form and mode.
+function halvesMet() {
+  for (const call of [7, 10, 107, 110]) {
+    const met = new Set();
+    for (const { words } of casesOf(call)) {
+      const { args, outcome } = decoded(words);
+      if (outcome.number !== 0n) continue;
+      const divisor = [args.plan, args.across, args.down].filter((each) => each !== undefined)
+        .reduce((product, each) => product * divisorOf(each), 1n);
+      args.results.filter((result) => size(2n * result) % (2n * divisor) === divisor).forEach((result) => {
+        met.add(`${args.mode ?? 'none'} ${result < 0n} ${(size(result) / divisor) % 2n}`);
+      });
+    }
+    same(`${CALLS[call].name}: halves met`, met.size, 'mode' in CALLS[call].takes ? 8 : 4);
+  }
+}
+
+function outputFacts() {
   const one = { across: plan(0, 1, 0, 1), down: plan(1, 2, 1, 1), bound: 4n, width: 3n, height: 1n };
   const results = BigInt64Array.of(16n, -12n, 0n);
-  same('whole of a picture', wholePicture({ ...one, results, cells: new Int32Array(3) }).cells, [2, -1, 0]);
+  const wholeIn = (more) => wholePicture({ ...one, ...more, results, cells: Int32Array.of(7, 7, 7) });
+  same('whole of a picture', wholeIn({ mode: 0n }).cells, [2, -2, 0]);
+  same('whole of a picture, upward', wholeIn({ mode: 1n }).cells, [2, -1, 0]);
+  same('whole of a picture, without a mode', wholeIn({}).cells, [2, -2, 0]);
+  const noMode = wholeIn({ mode: 2n });
+  same('whole of a picture, no such mode', [noMode.number, noMode.position, noMode.cells], [21, 0, [7, 7, 7]]);
   same('doubles of a picture', doublesPicture({ ...one, results, cells: new Float64Array(3) }).cells, [2, -1.5, 0]);
   const summary = summaryPicture({ ...one, results });
   same('summary of a picture', [summary.lowest, summary.highest, summary.indexOfLowest, summary.indexOfHighest],
@@ -35,6 +78,8 @@ function doublesInFacts() {
 }
 
 export function testValues() {
+  wholeFacts();
+  halvesMet();
   outputFacts();
   doublesInFacts();
 }

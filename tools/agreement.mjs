@@ -122,9 +122,9 @@ function doublesIn({ bound, doubles, samples }, out) {
   return outcomeIs(`doublesIn ${bound} ${floats(doubles)} ${wholes(samples)}`, out, { cells: wholes(out.samples) });
 }
 
-function outputInputs({ plan, across, down, bound, width, height, results }) {
+function outputInputs({ plan, across, down, bound, width, height, mode = '', results }) {
   const limits = plan ? `${planOf(plan)} ${bound}` : `${planOf(across)} ${planOf(down)} ${bound} ${width} ${height}`;
-  return `${limits} ${wholes(results)}`;
+  return `${limits} ${mode} ${wholes(results)}`;
 }
 
 function output(definition, write, answered = () => ({})) {
@@ -183,10 +183,10 @@ const EQUATIONS = [
   [4, point],
   [5, planner],
   [6, doublesIn],
-  [7, output('wholeSeries', wholes)],
+  [7, output('wholeSeriesBy', wholes)],
   [8, output('doublesSeries', floats)],
   [9, summary('summarySeries')],
-  [10, output('wholePicture', wholes)],
+  [10, output('wholePictureBy', wholes)],
   [11, output('doublesPicture', floats)],
   [12, summary('summaryPicture')],
   [13, readRecord],
@@ -199,6 +199,8 @@ const EQUATIONS = [
   [100, ofPlan('planReach', 'reach'), 'reach'],
   [101, stretchOf, 'stretch'],
   [101, sampleOf, 'sample'],
+  [107, output('wholeSeries', wholes)],
+  [110, output('wholePicture', wholes)],
 ];
 
 // The crate of equations. Every definition is opened to the prover.
@@ -213,7 +215,7 @@ const OPENED = {
   'Rattle.meaning.specs.Picture': 'pixel grid picture',
   'Rattle.meaning.specs.Refusals': 'firstOf firstWhere countWhere rowAt some planRows sizeRows ifDone ownRows planDivisor planReach',
   'Rattle.meaning.specs.Values':
-    'nearest ratio takes doubleRows doublesIn outputRows converted unbeaten summary',
+    'nearest even nearestEven ratio takes doubleRows doublesIn outputRows converted modeRows unbeaten summary',
   'Rattle.meaning.specs.Carry': 'carry carryCell carried',
   'Rattle.meaning.specs.Calls': 'smoothRows smoothed gained editRows changed editSeries pointRows point',
   'Rattle.meaning.specs.Planner': 'largest radiusFor nearestDown edgeFor widened stageFor plannerRows planFor',
@@ -231,8 +233,8 @@ const HEAD = [
   'use lib.Ieee.{nan, inf, fin}',
   'use Rattle.meaning.specs.Kernel.{plan}',
   'use Rattle.meaning.specs.Refusals.{seriesOf, pictureOf, commonRows}',
-  'use Rattle.meaning.specs.Values.{wholeSeries, doublesSeries, summarySeries}',
-  'use Rattle.meaning.specs.Values.{wholePicture, doublesPicture, summaryPicture}',
+  'use Rattle.meaning.specs.Values.{wholeSeries, wholeSeriesBy, doublesSeries, summarySeries}',
+  'use Rattle.meaning.specs.Values.{wholePicture, wholePictureBy, doublesPicture, summaryPicture}',
   'use Rattle.meaning.specs.Carry.{carrySeries, carryPicture}',
   'use Rattle.meaning.specs.Calls.{smoothSeries, smoothPicture}',
   ...Object.entries(OPENED).map(([from, names]) => `use ${from}.{${names.replaceAll(' ', ', ')}}`),

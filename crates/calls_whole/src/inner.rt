@@ -5,30 +5,45 @@ use calls_stream::inner::output;
 use carry::Carried;
 use plan::Plan;
 
-// Calls 7, 10, 15 and 16.
+// Calls 7, 10, 15 and 16, and 107 and 110, which are 7 and 10 without a mode.
 pub fn one_call(open: &mut bool, number: u64, results: &mut [i64], cells: &mut [i32]) {
     match number {
-        7 | 15 => series(open, number, results, cells),
+        7 | 15 | 107 => series(open, number, results, cells),
         _ => picture(open, number, results, cells),
     }
 }
 
-// Calls 7 and 15.
+// The mode of calls 7 and 10; the others have none.
+fn mode_of(open: &mut bool, number: u64) -> u64 {
+    match number {
+        7 | 10 => input::word(open),
+        _ => 0,
+    }
+}
+
+// Calls 7, 15 and 107.
 fn series(open: &mut bool, number: u64, results: &mut [i64], cells: &mut [i32]) {
     let plan = input::plan(open);
     let bound = input::word(open);
+    let mode = mode_of(open, number);
     let n = input::wholes(open, results);
     let count = input::samples(open, cells);
     if *open {
-        if number == 7 {
-            nearest_of_series(plan, bound, &results[..n], &mut cells[..count]);
-        } else {
-            carried_of_series(plan, bound, &results[..n], &mut cells[..count]);
+        match number {
+            7 => rounded_of_series(plan, bound, mode, &results[..n], &mut cells[..count]),
+            15 => carried_of_series(plan, bound, &results[..n], &mut cells[..count]),
+            _ => evened_of_series(plan, bound, &results[..n], &mut cells[..count]),
         }
     }
 }
 
-fn nearest_of_series(plan: Plan, bound: u64, results: &[i64], cells: &mut [i32]) {
+fn rounded_of_series(plan: Plan, bound: u64, mode: u64, results: &[i64], cells: &mut [i32]) {
+    output::answer(whole::whole_series_by(plan, bound, mode, results, cells));
+    output::samples(cells);
+    output::end_line();
+}
+
+fn evened_of_series(plan: Plan, bound: u64, results: &[i64], cells: &mut [i32]) {
     output::answer(whole::whole_series(plan, bound, results, cells));
     output::samples(cells);
     output::end_line();
@@ -40,21 +55,37 @@ fn carried_of_series(plan: Plan, bound: u64, results: &[i64], cells: &mut [i32])
     output::end_line();
 }
 
-// Calls 10 and 16.
+// Calls 10, 16 and 110.
 fn picture(open: &mut bool, number: u64, results: &mut [i64], cells: &mut [i32]) {
     let picture = input::picture(open);
+    let mode = mode_of(open, number);
     let n = input::wholes(open, results);
     let count = input::samples(open, cells);
     if *open {
-        if number == 10 {
-            nearest_of_picture(picture, &results[..n], &mut cells[..count]);
-        } else {
-            carried_of_picture(picture, &results[..n], &mut cells[..count]);
+        match number {
+            10 => rounded_of_picture(picture, mode, &results[..n], &mut cells[..count]),
+            16 => carried_of_picture(picture, &results[..n], &mut cells[..count]),
+            _ => evened_of_picture(picture, &results[..n], &mut cells[..count]),
         }
     }
 }
 
-fn nearest_of_picture(picture: Raster, results: &[i64], cells: &mut [i32]) {
+fn rounded_of_picture(picture: Raster, mode: u64, results: &[i64], cells: &mut [i32]) {
+    output::answer(whole::whole_picture_by(
+        picture.across,
+        picture.down,
+        picture.bound,
+        picture.width,
+        picture.height,
+        mode,
+        results,
+        cells,
+    ));
+    output::samples(cells);
+    output::end_line();
+}
+
+fn evened_of_picture(picture: Raster, results: &[i64], cells: &mut [i32]) {
     output::answer(whole::whole_picture(
         picture.across,
         picture.down,

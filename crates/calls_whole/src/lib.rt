@@ -1,2 +1,2 @@
-// The driver's calls 7, 10, 15 and 16: whole numbers out.
+// The driver's calls 7, 10, 15, 16, 107 and 110: whole numbers out.
 pub mod inner;

@@ -17,7 +17,7 @@ use Rattle.meaning.specs.Kernel.{Stage, plan, tap, passAt, kernel, width
 use Rattle.meaning.specs.Smoothing.{listOf, convolved, result, results, weight, near}
 use Rattle.meaning.specs.Picture.{pixel, grid, picture}
 use Rattle.meaning.specs.Refusals.{Answer, firstOf, firstWhere, countWhere, rowAt, some, planRows, sizeRows, commonRows, seriesOf, ifDone, zeros, ownRows, planDivisor, planReach}
-use Rattle.meaning.specs.Values.{nearest, ratio, plusZero, takes, doubleRows, doublesIn, outputRows, converted, unbeaten, summary, wholeSeries, wholePicture, summarySeries}
+use Rattle.meaning.specs.Values.{nearest, even, nearestEven, ratio, plusZero, takes, doubleRows, doublesIn, outputRows, converted, modeRows, unbeaten, summary, wholeSeries, wholeSeriesBy, wholePicture, wholePictureBy, summarySeries}
 use Rattle.meaning.specs.Carry.{carry, carryCell, carried, carrySeries, carryPicture}
 use Rattle.meaning.specs.Calls.{smoothRows, smoothed, smoothSeries, smoothPicture, gained, editRows, changed, editSeries, pointRows, point}
 use Rattle.meaning.specs.Planner.{largest, radiusFor, nearestDown, edgeFor, widened, stageFor, plannerRows, planFor}
@@ -34,8 +34,12 @@ data Example : Type 0 where
   edit : List Stage → List ℤ → ℕ → ℤ → List ℤ → ℕ → Example
   -- sigma in hundredths, passes, inner weight; radius, edge weight
   planner : ℕ → ℕ → ℕ → ℕ → ℕ → Example
-  -- plan, samples; whole output
-  whole : List Stage → List ℤ → List ℤ → Example
+  -- mode, plan, samples; whole output
+  whole : ℕ → List Stage → List ℤ → List ℤ → Example
+  -- plan, samples; whole output without a mode
+  wholeDefault : List Stage → List ℤ → List ℤ → Example
+  -- plans across and down, width, height, results; whole output without a mode
+  rasterDefault : List Stage → List Stage → ℕ → ℕ → List ℤ → List ℤ → Example
   -- plan, results; last carry, cells
   carries : List Stage → List ℤ → ℕ → List ℤ → Example
   -- plans across and down, width, height, samples; last carry, cells
@@ -52,8 +56,8 @@ data Example : Type 0 where
   unpointed : List Stage → List ℤ → ℕ → ℕ → ℕ → ℕ → Example
   -- plan, results; lowest and its index, highest and its index
   summed : List Stage → List ℤ → Float → ℕ → Float → ℕ → Example
-  -- plans across and down, width, height, results; number, position
-  refused : List Stage → List Stage → ℕ → ℕ → List ℤ → ℕ → ℕ → Example
+  -- mode, plans across and down, width, height, results; number, position
+  refused : ℕ → List Stage → List Stage → ℕ → ℕ → List ℤ → ℕ → ℕ → Example
   -- sigma in hundredths, passes, inner weight; number
   unplanned : ℕ → ℕ → ℕ → ℕ → Example
   -- plan; divisor
@@ -77,7 +81,9 @@ Holds (series ss f r) = smoothSeries fold ss 9 f f f ≡ record { answer = done;
 Holds (raster hs vs W H f r) = smoothPicture fold fold hs vs 9 W H f f f ≡ record { answer = done; results = r; work = zeros f }
 Holds (edit ss f p v r n) = editSeries fold ss 9 p v f (results fold ss f) (f ++ f) ≡ record { answer = done; count = n; samples = set f p v; results = r; work = zeros (f ++ f) }
 Holds (planner s K b r a) = planFor s K b ≡ record { answer = done; radius = r; edge = a }
-Holds (whole ss f c) = wholeSeries ss 9 (results fold ss f) f ≡ record { answer = done; cells = c }
+Holds (whole m ss f c) = wholeSeriesBy ss 9 m (results fold ss f) f ≡ record { answer = done; cells = c }
+Holds (wholeDefault ss f c) = wholeSeries ss 9 (results fold ss f) f ≡ record { answer = done; cells = c }
+Holds (rasterDefault hs vs W H r c) = wholePicture hs vs 9 W H r r ≡ record { answer = done; cells = c }
 Holds (carries ss r k c) = carrySeries ss 9 r r ≡ record { answer = done; carry = k; cells = c }
 Holds (carriesRaster hs vs W H f k c) = carryPicture hs vs 9 W H (picture fold fold hs vs W H f) f ≡ record { answer = done; carry = k; cells = c }
 Holds (uncarried ss r n p) = carrySeries ss 1 r r ≡ record { answer = answer n p 0; carry = 0; cells = r }
@@ -86,7 +92,7 @@ Holds (unsmoothed ss f n p k) = smoothSeries fold ss 9 f f f ≡ record { answer
 Holds (unedited ss f i v n p k) = editSeries fold ss 9 i v f f (f ++ f) ≡ record { answer = answer n p k; count = 0; samples = f; results = f; work = f ++ f }
 Holds (unpointed ss f i n p k) = point fold ss 9 i f (f ++ f) ≡ record { answer = answer n p k; value = plusZero; work = f ++ f }
 Holds (summed ss r l i h j) = summarySeries ss 9 r ≡ record { answer = done; lowest = l; highest = h; lowestAt = i; highestAt = j }
-Holds (refused hs vs W H r n p) = wholePicture hs vs 1 W H r r ≡ record { answer = answer n p 0; cells = r }
+Holds (refused m hs vs W H r n p) = wholePictureBy hs vs 1 W H m r r ≡ record { answer = answer n p 0; cells = r }
 Holds (unplanned s K b n) = planFor s K b ≡ record { answer = answer n 0 0; radius = 0; edge = 0 }
 Holds (divided ss d) = planDivisor ss ≡ d
 Holds (reached ss n) = planReach ss ≡ n
@@ -115,8 +121,8 @@ examples =
     ∷ planner 200 1 16 3 0
     -- not marked
     ∷ series (plan 1 2 1 1) (plus (4 ∷ 0 ∷ 0 ∷ [])) (plus (16 ∷ 12 ∷ 4 ∷ []))
-    ∷ whole (plan 1 2 1 1) (plus (4 ∷ 0 ∷ 0 ∷ [])) (plus (2 ∷ 2 ∷ 1 ∷ []))
-    ∷ whole (plan 1 2 1 1) (minus (4 ∷ 0 ∷ 0 ∷ [])) (minus (2 ∷ 1 ∷ 0 ∷ []))
+    ∷ whole 1 (plan 1 2 1 1) (plus (4 ∷ 0 ∷ 0 ∷ [])) (plus (2 ∷ 2 ∷ 1 ∷ []))
+    ∷ whole 1 (plan 1 2 1 1) (minus (4 ∷ 0 ∷ 0 ∷ [])) (minus (2 ∷ 1 ∷ 0 ∷ []))
     ∷ divided (plan 1 2 1 8) 16777216
     ∷ bounded (plan 1 2 1 8) 536870911 0
     ∷ bounded (plan 1 2 1 8) 536870912 6
@@ -130,7 +136,8 @@ examples =
     "smooth 0 8 3\n0 32\n1 24\n2 8\n"
     -- document 02's
     ∷ planner 500 4 16 3 13
-    -- of no page: without them a picture of one plan, columns read for rows, a reach of r + 1 always, a fraction taken, the last index of equals, a carry that is dropped, one of a refused call, a planner's half going up or to even, an edge weight of b, and bad samples counted beyond what is tested or with another number would pass
+    ∷ whole 0 (plan 1 2 1 1) (plus (4 ∷ 0 ∷ 0 ∷ [])) (plus (2 ∷ 2 ∷ 0 ∷ []))
+    -- of no page: without them a picture of one plan, columns read for rows, a reach of r + 1 always, a fraction taken, the last index of equals, a carry that is dropped, one of a refused call, a planner's half going up or to even, an edge weight of b, bad samples counted beyond what is tested or with another number, a mode tested before 12, and another mode by default would pass
     ∷ raster (plan 0 3 1 1) (plan 1 1 0 1) 2 2 (plus (1 ∷ 0 ∷ 0 ∷ 0 ∷ [])) (plus (8 ∷ 2 ∷ 4 ∷ 1 ∷ []))
     ∷ raster (plan 1 2 1 1) (plan 0 3 1 1) 3 2 (plus (9 ∷ 0 ∷ 0 ∷ 0 ∷ 0 ∷ 1 ∷ [])) (plus (145 ∷ 111 ∷ 40 ∷ 40 ∷ 39 ∷ 25 ∷ []))
     ∷ reached (plan 1 1 0 2) 2
@@ -143,8 +150,13 @@ examples =
     ∷ taken 9 (fin true 0 (pos 0) ∷ fin true 9 (pos 0) ∷ []) (plus (7 ∷ 7 ∷ [])) 0 0 0 (minus (0 ∷ 9 ∷ []))
     ∷ taken 9 (fin false 9 (pos 0) ∷ fin false 1 (negsuc 0) ∷ fin false 5 (pos 1) ∷ []) (plus (7 ∷ 7 ∷ 7 ∷ [])) 11 1 2 (plus (7 ∷ 7 ∷ 7 ∷ []))
     ∷ summed (plan 1 2 1 1) (pos 4 ∷ negsuc 3 ∷ pos 4 ∷ negsuc 3 ∷ []) (fin true 1 (negsuc 0)) 1 (fin false 1 (negsuc 0)) 0
-    ∷ refused (plan 1 1 0 1) (plan 1 2 1 1) 3 1 (pos 24 ∷ negsuc 24 ∷ pos 25 ∷ []) 12 1
-    ∷ refused (plan 1 1 0 1) (plan 1 2 1 1) 1 1 (pos 24 ∷ pos 24 ∷ []) 8 0
+    ∷ refused 0 (plan 1 1 0 1) (plan 1 2 1 1) 3 1 (pos 24 ∷ negsuc 24 ∷ pos 25 ∷ []) 12 1
+    ∷ refused 1 (plan 1 1 0 1) (plan 1 2 1 1) 1 1 (pos 24 ∷ pos 24 ∷ []) 8 0
+    ∷ refused 2 (plan 1 1 0 1) (plan 1 2 1 1) 2 1 (pos 24 ∷ negsuc 24 ∷ []) 12 1
+    ∷ refused 2 (plan 1 1 0 1) (plan 1 2 1 1) 2 1 (pos 24 ∷ negsuc 23 ∷ []) 21 0
+    ∷ whole 0 (plan 1 2 1 1) (minus (4 ∷ 0 ∷ 0 ∷ [])) (minus (2 ∷ 2 ∷ 0 ∷ []))
+    ∷ wholeDefault (plan 1 2 1 1) (plus (4 ∷ 0 ∷ 0 ∷ [])) (plus (2 ∷ 2 ∷ 0 ∷ []))
+    ∷ rasterDefault (plan 1 2 1 1) (plan 0 3 1 1) 4 1 (pos 20 ∷ pos 60 ∷ negsuc 19 ∷ negsuc 59 ∷ []) (pos 0 ∷ pos 2 ∷ pos 0 ∷ negsuc 1 ∷ [])
     ∷ carries (plan 1 2 1 1) (results fold (plan 1 2 1 1) (plus (4 ∷ 0 ∷ 0 ∷ []))) 0 (plus (2 ∷ 1 ∷ 1 ∷ []))
     ∷ carries (plan 1 2 1 1) (results fold (plan 1 2 1 1) (minus (4 ∷ 0 ∷ 0 ∷ []))) 0 (minus (2 ∷ 2 ∷ 0 ∷ []))
     ∷ carries (plan 1 2 1 1) (pos 7 ∷ negsuc 0 ∷ pos 5 ∷ []) 3 (plus (0 ∷ 0 ∷ 1 ∷ []))
@@ -170,9 +182,9 @@ data Every : List Example → Type 0 where
 
 examples-hold : Every examples
 unfolding examples sumWithin emod reflect fold ext tap passAt kernel width reach tapSum divisor listOf convolved result results weight near pixel grid picture
-    firstOf firstWhere countWhere rowAt some planRows sizeRows ifDone ownRows planDivisor planReach nearest ratio takes doubleRows doublesIn unbeaten summary ofInt div toSigned round size units odd span climb trailingZeros outputRows converted carry carryCell carried smoothRows smoothed gained editRows changed editSeries pointRows point
+    firstOf firstWhere countWhere rowAt some planRows sizeRows ifDone ownRows planDivisor planReach nearest even nearestEven ratio takes doubleRows doublesIn unbeaten summary ofInt div toSigned round size units odd span climb trailingZeros outputRows converted modeRows carry carryCell carried smoothRows smoothed gained editRows changed editSeries pointRows point
     largest radiusFor nearestDown edgeFor widened stageFor plannerRows planFor bytes number text digits decimal sampleAt stretch samplesOf begins reading readRecord firstLine resultLines report program
 examples-hold =
     refl and refl and refl and refl and refl and refl and refl
     and refl and refl and refl and refl and refl
-    and refl and refl and refl and refl and refl and refl and refl and refl and refl and refl and refl and refl and refl and refl and refl and refl and refl and refl and refl and refl and refl and refl and refl and refl and refl and refl and refl and refl and refl and refl and refl and refl and refl and refl and refl and refl and refl and refl and none
+    and refl and refl and refl and refl and refl and refl and refl and refl and refl and refl and refl and refl and refl and refl and refl and refl and refl and refl and refl and refl and refl and refl and refl and refl and refl and refl and refl and refl and refl and refl and refl and refl and refl and refl and refl and refl and refl and refl and refl and refl and refl and refl and refl and refl and none

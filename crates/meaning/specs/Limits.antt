@@ -5,6 +5,7 @@
 --   maxResult                        of M times the divisor
 --   maxLength, maxSide               of a series and of a picture's cells; of its width and height
 --   maxTaps                          of an accepted plan's taps from the centre outward; that no plan has more is a law
+--   maxMode                          of whole output's mode, which goes from 0
 --   maxSigma                         of the planner's sigma, in hundredths
 --   maxSamples, maxJob               of a job: samples of its record, bytes of the program's input
 use Prim.Native.Nat.{ℕ}
@@ -35,6 +36,9 @@ maxSide = 4096
 
 abbrev pub maxTaps : ℕ
 maxTaps = 4097
+
+abbrev pub maxMode : ℕ
+maxMode = 1
 
 abbrev pub maxSigma : ℕ
 maxSigma = 25600

@@ -5,7 +5,7 @@
 use Prim.Native.Nat.{ℕ, _*_, _≤_}
 use mathlib.Core.Path.{_≡_, refl, sym, _∙_, ap₂}
 use mathlib.Core.Bool.{Bool, false, _||_}
-use mathlib.Core.List.{List, [], _∷_, map}
+use mathlib.Core.List.{List, [], _∷_, _++_, map}
 use native.Mathlib.Nat.{one-le-mul, mul-le-mul-right}
 use native.Mathlib.Omega.{arith}
 use lib.ListN.{length}
@@ -13,7 +13,7 @@ use lib.IntN.{ℤ}
 use Rattle.meaning.specs.Limits.{least, maxBound, maxResult}
 use Rattle.meaning.specs.Extension.{at}
 use Rattle.meaning.specs.Kernel.{divisor}
-use Rattle.meaning.specs.Refusals.{Answer, firstOf, rowAt, differs, above, Shape, seriesOf, pictureOf, commonRows, planDivisor}
+use Rattle.meaning.specs.Refusals.{Answer, Row, firstOf, rowAt, differs, above, Shape, seriesOf, pictureOf, commonRows, planDivisor}
 use Rattle.meaning.specs.Values.{outputRows, converted}
 use Rattle.meaning.specs.Bounds.{AllowedLength, AllowedSides}
 use Rattle.theory.specs.Refusals.{number-zero, ifDone-done, ifDone-refused}
@@ -91,12 +91,12 @@ picture-passed p q M W H r n e z f g =
     passed s M (output-lent s M r n (number-zero e z) .1) (ap₂ _*_ (f ∙ accepted-divisor (stagesOf p) h) (g ∙ accepted-divisor (stagesOf q) v)) (ok .bound)
     (picture-out-divisor (stagesOf p) (stagesOf q) M W H r n allowed) (ok .product) (one-le-mul (ok .width .0) (ok .height .0))
 
--- ---- the two ends of a call whose test answered a
-module _ {A : Type 0} (g : ℤ → ℕ → A) (s : Shape) (M : ℕ) (r : List ℤ) (cells : List A) {a : Answer} (e : a ≡ firstOf (outputRows s M r (length cells))) where
-  pub call-refused : (a .number ≡ 0 → ⊥) → Gives (converted g s M r cells) a cells
+-- ---- the two ends of a call whose test answered a; rows of its own come behind those of every output
+module _ {A : Type 0} (own : List Row) (g : ℤ → ℕ → A) (s : Shape) (M : ℕ) (r : List ℤ) (cells : List A) {a : Answer} (e : a ≡ firstOf (outputRows s M r (length cells) ++ own)) where
+  pub call-refused : (a .number ≡ 0 → ⊥) → Gives (converted own g s M r cells) a cells
   unfolding converted
   call-refused h = rw (← e) (record { answer = refl; cells = sym (ifDone-refused a _ cells h) })
 
-  pub call-done : a .number ≡ 0 → {d : ℕ} → d ≡ s .divisor → {left : List A} → left ≡ map (λ z. g z d) r → Gives (converted g s M r cells) a left
+  pub call-done : a .number ≡ 0 → {d : ℕ} → d ≡ s .divisor → {left : List A} → left ≡ map (λ z. g z d) r → Gives (converted own g s M r cells) a left
   unfolding converted
   call-done z k l = rw (← e) (record { answer = refl; cells = l ∙ rw k (sym (ifDone-done a _ cells z)) })

@@ -31,6 +31,7 @@
 --   ShapeRows    rows 1 to 8 of any shape, and one row more
 --   Edits        what an edit makes of results, and how many change
 --   Nearest      a quotient to the nearest whole number
+--   Rounded      the same by a mode, which says where a half goes
 --   Carry        remainders carried on
 --   Extremes     the first of the lowest, and of the highest
 --   Values       a result over the divisor
@@ -40,6 +41,8 @@
 --   Accepted     a call is done exactly where the bounds hold
 --   AcceptedSmoothings   a smoothing, of a series or a picture, is done exactly where its bounds hold
 --   AcceptedOutputs   so is an output, of a series or a picture
+--   OwnRows      an output with rows of its own
+--   Negated      negated samples and results
 --   Placed       rows 1 to 9 of a call with a place, and what follows them
 --   AcceptedEdits, AcceptedPoints   so are an edit and a point
 --   AcceptedDoubles      and doubles in
@@ -83,6 +86,7 @@ pub mod BadSamples
 pub mod ShapeRows
 pub mod Edits
 pub mod Nearest
+pub mod Rounded
 pub mod Carry
 pub mod Extremes
 pub mod Values
@@ -92,6 +96,8 @@ pub mod Records
 pub mod Accepted
 pub mod AcceptedSmoothings
 pub mod AcceptedOutputs
+pub mod OwnRows
+pub mod Negated
 pub mod Placed
 pub mod AcceptedEdits
 pub mod AcceptedPoints

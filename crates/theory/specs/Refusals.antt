@@ -1,6 +1,6 @@
 -- The table of numbers: which row answers, and what an answer of 0 says. The first three conditions are tt of rows that are written down.
 --   Numbered rows     no row answers 0
---   Rising rows       the numbers rise from row to row, from above 0
+--   Rising rows       the numbers rise from row to row, from above 0;  RisingFrom m rows  from above m
 --   Below m a         the answer a has a number below m, position 0 and no bad sample
 --   Unplaced m rows   so has every row
 --   Off rows          no row applies
@@ -9,7 +9,7 @@
 --   Lower a b c       c is that of a and b with the lower number, where 0 is none
 -- Laws: first-on, first-off (the first row applies, or not), first-applies (the answer is that of a row that applies), first-lowest (where the numbers rise, of the lowest);
 -- first-parts (the answer is that of rows without position, or that of the rest), first-unplaced;
--- done-off, off-done, done-none, none-done (it is 0 exactly where none applies); number-lowest, number-none, number-exactly (of a call that answers that number); number-zero (of two answers that are the same); applies-append, off-append, append-off; refused-first, done-rest (rows in two parts);
+-- done-off, off-done, done-none, none-done (it is 0 exactly where none applies); number-lowest, number-none, number-exactly (of a call that answers that number); number-zero (of two answers that are the same); applies-append, off-append, append-off; refused-first, done-rest, first-then, first-either (rows in two parts), first-alone (of no second part); rising-numbered, first-above (where the numbers rise);
 -- off-more, more-off (the same tests of one thing more), two-lower (of two things, by the rows of each);
 -- ifDone-done, ifDone-refused, ifDone-ext; plan-numbered, common-numbered, common-size (where row 7 applies, row 8 does not matter).
 use mathlib.Core.Path.{_≡_, refl, sym, _∙_, ap}
@@ -20,7 +20,7 @@ use Prim.Native.Nat.{ℕ, _*_, _≤_, _<_}
 use native.Mathlib.Decide.{ℕ-discrete, decLt}
 use native.Mathlib.Omega.{arith}
 use lib.Dec.{T, ltb, eqb}
-use borrow.Author.Tests.{ltb-true, eqb-true, eq-eqb, ne-eqb}
+use borrow.Author.Tests.{ltb-true, lt-ltb, eqb-true, eq-eqb, ne-eqb}
 use Rattle.meaning.specs.Kernel.{Stage}
 use Rattle.theory.specs.Tests.{or-no, no-or}
 use Rattle.meaning.specs.Refusals.{Answer, Row, firstOf, Applies, here, later, _when_, some, Shape, planRows, sizeRows, commonRows, ifDone}
@@ -39,8 +39,11 @@ abbrev risesFrom : ℕ → List Row → Bool
 risesFrom n [] = true
 risesFrom n (row ∷ rows) = ltb n (row .answer .number) && risesFrom (row .answer .number) rows
 
+abbrev pub RisingFrom : ℕ → List Row → Type 0
+RisingFrom m rows = T (risesFrom m rows)
+
 abbrev pub Rising : List Row → Type 0
-Rising rows = T (risesFrom 0 rows)
+Rising = RisingFrom 0
 
 abbrev pub Below : ℕ → Answer → Type 0
 Below m a = (a .number < m) × (a .position ≡ 0) × (a .bad ≡ 0)
@@ -112,6 +115,15 @@ lowest-from m (row ∷ rows) {n} t (later k) =
 pub first-lowest : (rows : List Row) {n : ℕ} → Rising rows → Applies n rows → firstOf rows .number ≤ n
 first-lowest rows t k = lowest-from 0 rows t k .0
 
+pub first-above : (m : ℕ) (rows : List Row) → RisingFrom m rows → 0 < firstOf rows .number → m < firstOf rows .number
+first-above m rows t l = lowest-from m rows t (first-applies rows (λ z. omega arith)) .1
+
+pub rising-numbered : (m : ℕ) (rows : List Row) → RisingFrom m rows → Numbered rows
+rising-numbered m [] t = tt
+rising-numbered m (row ∷ rows) t =
+    let (l, u) = split-lt m (row .answer .number) (risesFrom (row .answer .number) rows) t in
+    rw (lt-ltb 0 (row .answer .number) (omega arith)) (rising-numbered (row .answer .number) rows u)
+
 -- ---- rows with position 0
 pub first-parts : (m : ℕ) (rows more : List Row) → Unplaced m rows → {a : Answer} → a ≡ firstOf (rows ++ more) → Below m a ⊎ (Off rows × (a ≡ firstOf more))
 unfolding firstOf
@@ -128,7 +140,7 @@ first-parts m (row ∷ rows) more t {a} e =
 
 pub first-unplaced : (m : ℕ) (rows : List Row) → Unplaced m rows → firstOf rows .position ≡ 0
 unfolding firstOf
-first-unplaced m rows t = ⊎-elim (λ p. p .1) (λ p. ap (λ (x : Answer). x .position) (p .1)) (first-parts m rows [] t (ap firstOf (sym (append-nil rows))))
+first-unplaced m rows t = ⊎-elim (λ p. p .1) (λ p. ap (λ (x : Answer). x .position) (p .1)) (first-parts m rows [] t (first-alone rows refl))
 
 pub number-zero : {a b : Answer} → a ≡ b → a .number ≡ 0 → b .number ≡ 0
 number-zero e z = sym (ap (λ (x : Answer). x .number) e) ∙ z
@@ -197,6 +209,26 @@ refused-first (row ∷ rows) more {a} e n = go (row .applies) (λ f. refused-fir
 pub done-rest : (rows more : List Row) {a b : Answer} → Numbered rows → a ≡ firstOf rows → a .number ≡ 0 → b ≡ firstOf more → b ≡ firstOf (rows ++ more)
 done-rest rows more {a} t e z f = f ∙ sym (off-skip rows more (done-off rows t (rw (← e) z)))
 
+-- a call that has tested the first part, and the rest only where that answered 0
+pub first-then : (rows more : List Row) {a b : Answer} → Numbered rows → a ≡ firstOf rows → b ≡ ifDone a (firstOf more) a → b ≡ firstOf (rows ++ more)
+unfolding ifDone
+first-then rows more {a} t e f = f ∙ go (ℕ-discrete (a .number) 0)
+  where
+    go : Dec (a .number ≡ 0) → ifDone a (firstOf more) a ≡ firstOf (rows ++ more)
+    go (yes z) = rw (eq-eqb (a .number) 0 z) (done-rest rows more t e z refl)
+    go (no n) = rw (ne-eqb (a .number) 0 n) (refused-first rows more e n)
+
+-- the answer is that of the first part, or that of the rest
+pub first-either : (rows more : List Row) → Numbered rows → {a : Answer} → a ≡ firstOf (rows ++ more) → (a ≡ firstOf rows) ⊎ (Off rows × (a ≡ firstOf more))
+first-either rows more t e = go (ℕ-discrete (firstOf rows .number) 0)
+  where
+    go : Dec (firstOf rows .number ≡ 0) → _
+    go (yes z) = let h = done-off rows t z in inr (h, e ∙ off-skip rows more h)
+    go (no n) = inl (e ∙ sym (refused-first rows more refl n))
+
+pub first-alone : (rows : List Row) {a : Answer} → a ≡ firstOf rows → a ≡ firstOf (rows ++ [])
+first-alone rows e = e ∙ ap firstOf (sym (append-nil rows))
+
 -- ---- the same tests of two things
 abbrev Before : Answer → Answer → Type 0
 Before a b = 0 < b .number → (0 < a .number) × (a .number ≤ b .number)
@@ -228,8 +260,6 @@ lower-step r a b c true false l low-a low-b k = (λ h. refl, λ h. absurd (omega
 lower-step r a b c false true l low-a low-b k = (λ h. absurd (omega (arith, h l, low-a (h l .0))), λ h. refl)
 lower-step r a b c false false l low-a low-b k = k
 
-first-above : (m : ℕ) (rows : List Row) → T (risesFrom m rows) → 0 < firstOf rows .number → m < firstOf rows .number
-first-above m rows t l = lowest-from m rows t (first-applies rows (λ z. omega arith)) .1
 
 -- the numbers rise from above m
 pub two-lower : (m : ℕ) {A : Type 0} (tests : List (ℕ × (A → Bool))) (x y : A) → ((xs : List A) → T (risesFrom m (rowsOf tests xs))) → Lower (firstOf (rowsOf tests (x ∷ []))) (firstOf (rowsOf tests (y ∷ []))) (firstOf (rowsOf tests (x ∷ y ∷ [])))

@@ -6,20 +6,61 @@ use plan::Answer;
 use plan::Plan;
 
 mod converting;
+mod mode;
 
-// Each result over the divisor, to the nearest whole number, a half going upward. A refused call changes no cell.
-pub fn whole_series(plan: Plan, bound: u64, results: &[i64], cells: &mut [i32]) -> Answer
-    ensures { λ r. ⌜ Gives (meant.wholeSeries (stagesOf plan) bound (now (results .entry)) (now (cells .entry))) (answerOf r) (now (cells .exit)) ⌝ }
+// The modes: a half goes to the even neighbour, or upward, as in columns that were stored before there were modes.
+pub const EVEN: u64 = 0;
+pub const UPWARD: u64 = 1;
+
+// Each result over the divisor, to the nearest whole number, a half going by the mode. A refused call changes no cell.
+pub fn whole_series_by(
+    plan: Plan,
+    bound: u64,
+    mode: u64,
+    results: &[i64],
+    cells: &mut [i32],
+) -> Answer
+    ensures { λ r. ⌜ Gives (meant.wholeSeriesBy (stagesOf plan) bound mode (now (results .entry)) (now (cells .entry))) (answerOf r) (now (cells .exit)) ⌝ }
 {
-    let answer = outputs::inner::series(plan, bound, results, cells.len());
+    let answer = mode::tested(outputs::inner::series(plan, bound, results, cells.len()), mode);
     if answer.number != 0 {
         return answer;
     }
-    converting::whole_into(plan.divisor(), results, cells);
+    converting::whole_into(plan.divisor(), mode, results, cells);
     answer
 }
 
+// The same, a half going to the even neighbour.
+pub fn whole_series(plan: Plan, bound: u64, results: &[i64], cells: &mut [i32]) -> Answer
+    ensures { λ r. ⌜ Gives (meant.wholeSeries (stagesOf plan) bound (now (results .entry)) (now (cells .entry))) (answerOf r) (now (cells .exit)) ⌝ }
+{
+    whole_series_by(plan, bound, EVEN, results, cells)
+}
+
 // The same of a picture, over the product of both divisors.
+pub fn whole_picture_by(
+    across: Plan,
+    down: Plan,
+    bound: u64,
+    width: u64,
+    height: u64,
+    mode: u64,
+    results: &[i64],
+    cells: &mut [i32],
+) -> Answer
+    ensures { λ r. ⌜ Gives (meant.wholePictureBy (stagesOf across) (stagesOf down) bound width height mode (now (results .entry)) (now (cells .entry))) (answerOf r) (now (cells .exit)) ⌝ }
+{
+    let answer = mode::tested(
+        outputs::inner::picture(across, down, bound, width, height, results, cells.len()),
+        mode,
+    );
+    if answer.number != 0 {
+        return answer;
+    }
+    converting::whole_into(across.divisor() * down.divisor(), mode, results, cells);
+    answer
+}
+
 pub fn whole_picture(
     across: Plan,
     down: Plan,
@@ -31,10 +72,5 @@ pub fn whole_picture(
 ) -> Answer
     ensures { λ r. ⌜ Gives (meant.wholePicture (stagesOf across) (stagesOf down) bound width height (now (results .entry)) (now (cells .entry))) (answerOf r) (now (cells .exit)) ⌝ }
 {
-    let answer = outputs::inner::picture(across, down, bound, width, height, results, cells.len());
-    if answer.number != 0 {
-        return answer;
-    }
-    converting::whole_into(across.divisor() * down.divisor(), results, cells);
-    answer
+    whole_picture_by(across, down, bound, width, height, EVEN, results, cells)
 }

@@ -1,0 +1,58 @@
+-- The rows of an output with rows of the call's own behind them.
+--   Behind own   their numbers rise from above 12, and none has a position
+-- Laws: own-rising, own-numbered; own-position (at 12), own-no-position (else); own-done, done-own (the answer is 0 exactly where that of the first part is, and none of its own applies).
+use Prim.Native.Nat.{ℕ, _*_, _<_}
+use mathlib.Core.Path.{_≡_, sym, ap, _∙_}
+use mathlib.Core.Logic.{⊎-elim}
+use mathlib.Core.List.{List, [], _++_}
+use native.Mathlib.Omega.{arith}
+use lib.ListN.{length}
+use lib.IntN.{ℤ, natAbs}
+use Rattle.meaning.specs.Extension.{at}
+use Rattle.meaning.specs.Refusals.{Answer, Row, firstOf, rowAt, Shape, planRows, sizeRows}
+use Rattle.meaning.specs.Values.{outputRows}
+use Rattle.meaning.specs.Bounds.{FirstAt}
+use Rattle.theory.specs.Refusals.{done, Off, Numbered, Rising, RisingFrom, Unplaced, done-off, off-done, off-append, append-off, first-either, first-above, first-unplaced, rising-numbered}
+use Rattle.theory.specs.AcceptedOutputs.{output-numbered, output-position, output-no-position}
+
+pub record Behind (own : List Row) : Type 0 where
+  pub rising : RisingFrom 12 own
+  pub most : ℕ
+  pub unplaced : Unplaced most own
+
+pub none-own : Behind []
+none-own = record { rising = tt; most = 0; unplaced = tt }
+
+module _ (s : Shape) (M : ℕ) (r : List ℤ) (n : ℕ) (own : List Row) where
+  abbrev first : List Row
+  first = outputRows s M r n
+
+  module _ (k : Behind own) where
+    pub own-rising : Rising (first ++ own)
+    unfolding outputRows planRows sizeRows rowAt
+    own-rising = k .rising
+
+    pub own-numbered : Numbered (first ++ own)
+    unfolding outputRows planRows sizeRows rowAt
+    own-numbered = rising-numbered 12 own (k .rising)
+
+    module _ {x : Answer} (e : x ≡ firstOf (first ++ own)) where
+      pub own-position : x .number ≡ 12 → FirstAt (length r) (λ i. M * s .divisor < natAbs (at r i)) (x .position)
+      own-position h = ⊎-elim
+        (λ f. output-position s M r n f h)
+        (λ p. let f = ap (λ (a : Answer). a .number) (p .1) in let no : ⊥ = omega (arith, first-above 12 own (k .rising) (omega arith)) in absurd no)
+        (first-either first own (output-numbered s M r n) e)
+
+      pub own-no-position : (x .number ≡ 12 → ⊥) → x .position ≡ 0
+      own-no-position h = ⊎-elim
+        (λ f. output-no-position s M r n f h)
+        (λ p. ap (λ (a : Answer). a .position) (p .1) ∙ first-unplaced (k .most) own (k .unplaced))
+        (first-either first own (output-numbered s M r n) e)
+
+    pub own-done : {x : Answer} → x ≡ firstOf (first ++ own) → x .number ≡ 0 → (firstOf first .number ≡ 0) × Off own
+    own-done e z =
+        let (a, b) = append-off first own (done-off (first ++ own) own-numbered (sym (ap (λ (a : Answer). a .number) e) ∙ z)) in
+        (ap (λ (x : Answer). x .number) (off-done first a), b)
+
+  pub done-own : firstOf first ≡ done → Off own → firstOf (first ++ own) ≡ done
+  done-own e o = off-done (first ++ own) (off-append first own (done-off first (output-numbered s M r n) (ap (λ (x : Answer). x .number) e)) o)
