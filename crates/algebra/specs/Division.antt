@@ -1,15 +1,15 @@
 -- Division that rounds down: lib.Signed's shrZ z m is ⌊z / m⌋.
 --   Divided z m q r   z is m q + r, and r is below m; so 0 < m, and r is never negative
 -- A remainder defined elsewhere is tied by divided-pos and divided-negsuc, and then known by divided-unique.
--- Laws: divided-pos, divided-negsuc, divided-shift, divided-unique;
+-- Laws: divided-pos, divided-negsuc, divided-shift; divided-next, divided-turn (one more, and where that is a whole quotient more), divided-neg-whole, divided-neg (of the negative: without a rest, and with one); divided-unique;
 -- floor-unique, floor-lower, floor-upper, floor-mono.
 use mathlib.Core.Path.{_≡_, refl, ap}
 use Prim.Native.Nat.{ℕ, suc, _+_, _*_, _-_, _/_, _%_, _<_}
 use native.Mathlib.Nat.{div-add-mod', mod-lt, lt-of-mul-lt-mul-left}
 use native.Mathlib.Omega.{arith}
-use lib.IntN.{ℤ, pos, negsuc, _+ℤ_, _*ℤ_}
+use lib.IntN.{ℤ, pos, negsuc, negℤ, _+ℤ_, _-ℤ_, _*ℤ_}
 use lib.Signed.{_≤ℤ_, _<ℤ_, shrZ, ≤ℤ-refl}
-use Rattle.algebra.specs.Difference.{plus, minus, diff, linear}
+use Rattle.algebra.specs.Difference.{plus, minus, rep, diff, linear}
 use Rattle.algebra.specs.Ring.{*ℤ-+ℤ}
 use Rattle.algebra.specs.Order.{zarith, le-in, of+, of*, ≤ℤ-antisym}
 use Rattle.algebra.specs.Solver.{ring, _≗_}
@@ -31,6 +31,19 @@ divided-shift {z} {m} {q} {r} d k = record { below = d .below; is = rw (d .is) (
   where
     regroup : (m q r k : ℤ) → m *ℤ q +ℤ r +ℤ m *ℤ k ≡ m *ℤ (q +ℤ k) +ℤ r
     regroup = ring 4 (λ m q r k. m ⊗ q ⊕ r ⊕ m ⊗ k ≗ m ⊗ (q ⊕ k) ⊕ r) refl
+
+module _ {z : ℤ} {m : ℕ} {q : ℤ} where
+  pub divided-next : {r : ℕ} → Divided z m q r → suc r < m → Divided (z +ℤ pos 1) m q (suc r)
+  divided-next d l = record { below = l; is = rw (d .is, rep q) (simp diff (omega linear)) }
+
+  pub divided-turn : {r : ℕ} → Divided z m q r → suc r ≡ m → Divided (z +ℤ pos 1) m (q +ℤ pos 1) 0
+  divided-turn d e = record { below = omega arith; is = rw (d .is, rep q) (simp diff (omega linear)) }
+
+  pub divided-neg-whole : Divided z m q 0 → Divided (negℤ z) m (negℤ q) 0
+  divided-neg-whole d = record { below = d .below; is = rw (d .is, rep q) (simp diff (omega linear)) }
+
+  pub divided-neg : {r : ℕ} → Divided z m q r → 0 < r → Divided (negℤ z) m (negsuc 0 -ℤ q) (m - r)
+  divided-neg d l = record { below = omega arith; is = rw (d .is, rep q) (simp diff (omega (linear, d .below))) }
 
 -- the larger number has no smaller quotient
 quotient-mono : {a b : ℤ} {m : ℕ} {p q : ℤ} {r s : ℕ} → Divided a m p r → Divided b m q s → a ≤ℤ b → p ≤ℤ q

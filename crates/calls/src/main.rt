@@ -64,7 +64,12 @@ fn one_call(
     match number {
         1 | 2 | 4 => calls_smoothing::inner::one_call(&mut open, number, samples, results, work),
         3 => edits::edit_series(&mut open, samples, results, work),
-        7 | 10 | 15 | 16 | 107 | 110 => calls_whole::inner::one_call(&mut open, number, results, samples),
+        7 | 10 | 15 | 16 | 107 | 110 => calls_whole::inner::one_call(
+            &mut open,
+            number,
+            results,
+            samples,
+        ),
         6 | 8 | 9 | 11 | 12 => calls_outputs::inner::one_call(
             &mut open,
             number,

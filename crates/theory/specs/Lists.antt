@@ -1,9 +1,9 @@
 -- Lists made of their elements, and how large those are.
 --   Sized M f   no element of f is larger than M; its field `size i` holds past the end too, where f reads as 0
--- Laws: length-listOf, at-listOf, listOf-ext, listOf-at (a list is that of its elements), listOf-const; at-past;
+-- Laws: length-listOf, at-listOf, listOf-ext, listOf-at (a list is that of its elements), listOf-const, listOf-map; at-past;
 -- sized (from the elements there are), sized-listOf, sized-set.
 use mathlib.Core.Path.{_≡_, refl, sym, _∙_, ap, ap₂}
-use mathlib.Core.List.{List, _∷_}
+use mathlib.Core.List.{List, _∷_, map}
 use Prim.Native.Nat.{ℕ, zero, suc, _≤_, _<_}
 use native.Mathlib.Decide.{decLt, ℕ-discrete}
 use native.Mathlib.Omega.{arith}
@@ -38,6 +38,11 @@ pub listOf-const : (n : ℕ) (x : ℤ) → listOf n (λ i. x) ≡ replicate n x
 unfolding listOf
 listOf-const zero x = refl
 listOf-const (suc n) x = ap (λ l. x ∷ l) (listOf-const n x)
+
+pub listOf-map : (h : ℤ → ℤ) (n : ℕ) (g : ℕ → ℤ) → listOf n (λ i. h (g i)) ≡ map h (listOf n g)
+unfolding listOf
+listOf-map h zero g = refl
+listOf-map h (suc n) g = ap (λ l. h (g 0) ∷ l) (listOf-map h n (λ i. g (suc i)))
 
 pub at-past : (f : List ℤ) (i : ℕ) → length f ≤ i → at f i ≡ pos 0
 at-past f i h = List·getD-eq-default f (pos 0) h

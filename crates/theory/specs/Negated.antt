@@ -1,12 +1,12 @@
 -- Negated samples and results: what smoothing and the outputs make of them.
 -- Laws: at-negated; results-negated, picture-negated (the results of negated samples); smooth-negated, output-negated (their rows are those of the samples and results themselves).
-use Prim.Native.Nat.{ℕ, zero, suc, _*_}
+use Prim.Native.Nat.{ℕ, zero, suc, _+_, _*_}
 use mathlib.Core.Path.{_≡_, refl, sym, ap, _∙_}
 use mathlib.Core.List.{List, [], _∷_, _++_, map}
 use lib.Dec.{ltb}
 use lib.ListN.{length, length-map}
 use lib.IntN.{ℤ, pos, negsuc, negℤ, natAbs, _*ℤ_}
-use Rattle.algebra.specs.Ring.{ac}
+use Rattle.algebra.specs.Ring.{*ℤ-idl, negℤ-*ℤ}
 use Rattle.algebra.specs.Size.{natAbs-neg}
 use Rattle.meaning.specs.Extension.{at, IndexMap, ext}
 use Rattle.meaning.specs.Kernel.{Stage}
@@ -15,13 +15,13 @@ use Rattle.meaning.specs.Picture.{cell, pixel, grid, picture}
 use Rattle.meaning.specs.Refusals.{Shape, above}
 use Rattle.meaning.specs.Values.{outputRows}
 use Rattle.meaning.specs.Calls.{smoothRows}
-use Rattle.theory.specs.Lists.{listOf-ext}
+use Rattle.theory.specs.Lists.{listOf-ext, listOf-map}
 use Rattle.theory.specs.Convolution.{convolved-ext, convolved-*}
-use Rattle.theory.specs.Picture.{grid-ext}
+use Rattle.theory.specs.Picture.{grid-ext, grid-map}
 use Rattle.theory.specs.Places.{rowAt-ext}
 
 pub at-negated : (f : List ℤ) (i : ℕ) → at (map negℤ f) i ≡ negℤ (at f i)
-at-negated [] i = ?
+at-negated [] i = refl
 at-negated (x ∷ f) zero = refl
 at-negated (x ∷ f) (suc i) = at-negated f i
 
@@ -30,15 +30,10 @@ above-negated M f i = ap (ltb M) (ap natAbs (at-negated f i) ∙ natAbs-neg (at 
 
 -- ---- results
 times-minus-one : (z : ℤ) → negsuc 0 *ℤ z ≡ negℤ z
-times-minus-one z = ?
+times-minus-one z = negℤ-*ℤ (pos 1) z ∙ ap negℤ (*ℤ-idl z)
 
 convolved-negated : (ss : List Stage) (e : ℤ → ℤ) (n : ℤ) → convolved ss (λ x. negℤ (e x)) n ≡ negℤ (convolved ss e n)
 convolved-negated ss e n = convolved-ext ss (λ x. sym (times-minus-one (e x))) n ∙ convolved-* ss (negsuc 0) e n ∙ times-minus-one (convolved ss e n)
-
-map-listOf : (n : ℕ) (g : ℕ → ℤ) → listOf n (λ i. negℤ (g i)) ≡ map negℤ (listOf n g)
-unfolding listOf
-map-listOf zero g = refl
-map-listOf (suc n) g = ap (λ l. negℤ (g 0) ∷ l) (map-listOf n (λ i. g (suc i)))
 
 result-negated : (φ : IndexMap) (ss : List Stage) (f : List ℤ) (n : ℤ) → result φ ss (map negℤ f) n ≡ negℤ (result φ ss f n)
 unfolding result ext
@@ -46,11 +41,14 @@ result-negated φ ss f n = convolved-ext ss (λ x. rw (length-map f negℤ) (at-
 
 pub results-negated : (φ : IndexMap) (ss : List Stage) (f : List ℤ) → results φ ss (map negℤ f) ≡ map negℤ (results φ ss f)
 unfolding results
-results-negated φ ss f = ?
+results-negated φ ss f = rw (length-map f negℤ) (listOf-ext (length f) (λ n l. result-negated φ ss f (pos n)) ∙ listOf-map negℤ (length f) (λ n. result φ ss f (pos n)))
 
 pub picture-negated : (φ ψ : IndexMap) (hs vs : List Stage) (W H : ℕ) (f : List ℤ) → picture φ ψ hs vs W H (map negℤ f) ≡ map negℤ (picture φ ψ hs vs W H f)
 unfolding picture pixel
-picture-negated φ ψ hs vs W H f = ?
+picture-negated φ ψ hs vs W H f =
+    grid-ext W H (λ x y l m. convolved-ext hs (λ i. convolved-ext vs (λ j. at-negated f (ψ H j * W + φ W i)) (pos y) ∙ convolved-negated vs (λ j. cell W f (φ W i) (ψ H j)) (pos y)) (pos x)
+    ∙ convolved-negated hs (λ i. convolved vs (λ j. cell W f (φ W i) (ψ H j)) (pos y)) (pos x))
+    ∙ grid-map negℤ W H _
 
 -- ---- rows
 pub smooth-negated : (s : Shape) (M : ℕ) (f : List ℤ) (nr nw : ℕ) → smoothRows s M (map negℤ f) nr nw ≡ smoothRows s M f nr nw

@@ -39,15 +39,15 @@ module _ (s : Shape) (M : ℕ) (r : List ℤ) (n : ℕ) (own : List Row) where
     module _ {x : Answer} (e : x ≡ firstOf (first ++ own)) where
       pub own-position : x .number ≡ 12 → FirstAt (length r) (λ i. M * s .divisor < natAbs (at r i)) (x .position)
       own-position h = ⊎-elim
-        (λ f. output-position s M r n f h)
-        (λ p. let f = ap (λ (a : Answer). a .number) (p .1) in let no : ⊥ = omega (arith, first-above 12 own (k .rising) (omega arith)) in absurd no)
-        (first-either first own (output-numbered s M r n) e)
+          (λ f. output-position s M r n f h)
+          (λ p. let f = ap (λ (a : Answer). a .number) (p .1) in let no : ⊥ = omega (arith, first-above 12 own (k .rising) (omega arith)) in absurd no)
+          (first-either first own (output-numbered s M r n) e)
 
       pub own-no-position : (x .number ≡ 12 → ⊥) → x .position ≡ 0
       own-no-position h = ⊎-elim
-        (λ f. output-no-position s M r n f h)
-        (λ p. ap (λ (a : Answer). a .position) (p .1) ∙ first-unplaced (k .most) own (k .unplaced))
-        (first-either first own (output-numbered s M r n) e)
+          (λ f. output-no-position s M r n f h)
+          (λ p. ap (λ (a : Answer). a .position) (p .1) ∙ first-unplaced (k .most) own (k .unplaced))
+          (first-either first own (output-numbered s M r n) e)
 
     pub own-done : {x : Answer} → x ≡ firstOf (first ++ own) → x .number ≡ 0 → (firstOf first .number ≡ 0) × Off own
     own-done e z =

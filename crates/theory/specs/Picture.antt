@@ -1,11 +1,11 @@
 -- Pictures: smoothing across and down, in either order, gives `picture`; and how large it grows.
 --   Keeps op   op leaves a series as long as it is
--- Laws: length-row, length-column, at-row, row-inside (a row ends within the picture), row-part (a row is a stretch of the picture);
+-- Laws: grid-ext, grid-map; length-row, length-column, at-row, row-inside (a row ends within the picture), row-part (a row is a stretch of the picture);
 -- ext-column (a column without ends), sized-column; length-across, length-down, length-picture, cell-picture; row-across (what was done to each row is found in each row);
 -- down-none, down-cons (a stage in front is one pass more over every column), cell-passed (a cell after one pass down);
 -- rows-first, columns-first, either-first; across-size, down-size, picture-size.
 use mathlib.Core.Path.{_≡_, refl, sym, _∙_, ap, ap₂}
-use mathlib.Core.List.{List, [], _∷_, _++_}
+use mathlib.Core.List.{List, [], _∷_, _++_, map, map-append}
 use Prim.Native.Nat.{ℕ, zero, suc, _+_, _*_, _/_, _%_, _≤_, _<_}
 use native.Mathlib.Nat.{mul-zero, div-add-mod', mod-lt, div-lt-iff-lt-mul, mul-assoc, mul-comm, mul-le-mul-right}
 use native.Mathlib.Omega.{arith}
@@ -19,7 +19,7 @@ use Rattle.meaning.specs.Smoothing.{listOf, convolved, result, results, pass}
 use Rattle.meaning.specs.Picture.{cell, pixel, grid, picture, row, column, across, down}
 use Rattle.theory.specs.Folding.{Folding}
 use Rattle.theory.specs.Convolution.{convolved-ext, convolved-swap}
-use Rattle.theory.specs.Lists.{length-listOf, at-listOf, listOf-ext, listOf-at, Sized, sized, sized-listOf}
+use Rattle.theory.specs.Lists.{length-listOf, at-listOf, listOf-ext, listOf-at, listOf-map, Sized, sized, sized-listOf}
 use Rattle.theory.specs.Passes.{length-results, at-results, at-pass, results-none, results-cons}
 use Rattle.theory.specs.Sizes.{convolved-size}
 
@@ -40,10 +40,15 @@ cell-grid W (suc H) g x (suc y) hx hy =
     let e : suc y * W + x ≡ length first + (y * W + x) = omega (arith, length-listOf W (λ x. g x 0)) in
     rw e (getD-append-add first (grid W H (λ x y. g x (suc y))) (y * W + x) (pos 0) ∙ cell-grid W H (λ x y. g x (suc y)) x y hx (omega arith))
 
-grid-ext : (W H : ℕ) {g h : ℕ → ℕ → ℤ} → ((x y : ℕ) → x < W → y < H → g x y ≡ h x y) → grid W H g ≡ grid W H h
+pub grid-ext : (W H : ℕ) {g h : ℕ → ℕ → ℤ} → ((x y : ℕ) → x < W → y < H → g x y ≡ h x y) → grid W H g ≡ grid W H h
 unfolding grid
 grid-ext W zero e = refl
 grid-ext W (suc H) e = ap₂ _++_ (listOf-ext W (λ x l. e x 0 l (omega arith))) (grid-ext W H (λ x y l m. e x (suc y) l (omega arith)))
+
+pub grid-map : (h : ℤ → ℤ) (W H : ℕ) (g : ℕ → ℕ → ℤ) → grid W H (λ x y. h (g x y)) ≡ map h (grid W H g)
+unfolding grid
+grid-map h W zero g = refl
+grid-map h W (suc H) g = ap₂ _++_ (listOf-map h W (λ x. g x 0)) (grid-map h W H (λ x y. g x (suc y))) ∙ sym (map-append h (listOf W (λ x. g x 0)) (grid W H (λ x y. g x (suc y))))
 
 -- where index i stands
 record Place (W H i : ℕ) : Type 0 where

@@ -125,6 +125,9 @@ rising-numbered m (row ∷ rows) t =
     rw (lt-ltb 0 (row .answer .number) (omega arith)) (rising-numbered (row .answer .number) rows u)
 
 -- ---- rows with position 0
+pub first-alone : (rows : List Row) {a : Answer} → a ≡ firstOf rows → a ≡ firstOf (rows ++ [])
+first-alone rows e = e ∙ ap firstOf (sym (append-nil rows))
+
 pub first-parts : (m : ℕ) (rows more : List Row) → Unplaced m rows → {a : Answer} → a ≡ firstOf (rows ++ more) → Below m a ⊎ (Off rows × (a ≡ firstOf more))
 unfolding firstOf
 first-parts m [] more t e = inr (tt, e)
@@ -220,14 +223,11 @@ first-then rows more {a} t e f = f ∙ go (ℕ-discrete (a .number) 0)
 
 -- the answer is that of the first part, or that of the rest
 pub first-either : (rows more : List Row) → Numbered rows → {a : Answer} → a ≡ firstOf (rows ++ more) → (a ≡ firstOf rows) ⊎ (Off rows × (a ≡ firstOf more))
-first-either rows more t e = go (ℕ-discrete (firstOf rows .number) 0)
+first-either rows more t {a} e = go (ℕ-discrete (firstOf rows .number) 0)
   where
-    go : Dec (firstOf rows .number ≡ 0) → _
+    go : Dec (firstOf rows .number ≡ 0) → (a ≡ firstOf rows) ⊎ (Off rows × (a ≡ firstOf more))
     go (yes z) = let h = done-off rows t z in inr (h, e ∙ off-skip rows more h)
     go (no n) = inl (e ∙ sym (refused-first rows more refl n))
-
-pub first-alone : (rows : List Row) {a : Answer} → a ≡ firstOf rows → a ≡ firstOf (rows ++ [])
-first-alone rows e = e ∙ ap firstOf (sym (append-nil rows))
 
 -- ---- the same tests of two things
 abbrev Before : Answer → Answer → Type 0
@@ -259,7 +259,6 @@ lower-step r a b c true true l low-a low-b k = (λ h. refl, λ h. refl)
 lower-step r a b c true false l low-a low-b k = (λ h. refl, λ h. absurd (omega (arith, h l, low-b (h l .0))))
 lower-step r a b c false true l low-a low-b k = (λ h. absurd (omega (arith, h l, low-a (h l .0))), λ h. refl)
 lower-step r a b c false false l low-a low-b k = k
-
 
 -- the numbers rise from above m
 pub two-lower : (m : ℕ) {A : Type 0} (tests : List (ℕ × (A → Bool))) (x y : A) → ((xs : List A) → T (risesFrom m (rowsOf tests xs))) → Lower (firstOf (rowsOf tests (x ∷ []))) (firstOf (rowsOf tests (y ∷ []))) (firstOf (rowsOf tests (x ∷ y ∷ [])))

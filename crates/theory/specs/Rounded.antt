@@ -7,18 +7,17 @@
 use Prim.Native.Nat.{ℕ, zero, suc, _+_, _*_, _-_, _≤_, _<_}
 use mathlib.Core.Path.{_≡_, refl, sym, ap, _∙_}
 use mathlib.Core.Logic.{_⊎_, inl, inr}
-use mathlib.Core.Bool.{Bool, true, false, cond, not, _&&_}
+use mathlib.Core.Bool.{Bool, true, false, cond, not, _||_, Bool·not-not}
 use native.Mathlib.Decide.{ℕ-discrete, decLt}
 use native.Mathlib.Omega.{arith}
 use lib.Dec.{eqb}
-use lib.IntN.{ℤ, pos, negsuc, negℤ, natAbs, _+ℤ_, _-ℤ_, _*ℤ_, negℤ-negℤ}
+use lib.IntN.{ℤ, pos, negsuc, negℤ, natAbs, _+ℤ_, _-ℤ_, _*ℤ_, +ℤ-idr, negℤ-+ℤ, negℤ-negℤ}
 use lib.Signed.{_≤ℤ_}
 use borrow.Author.Tests.{eqb-true}
-use Rattle.algebra.specs.Difference.{rep, diff, linear}
-use Rattle.algebra.specs.Ring.{ac}
-use Rattle.algebra.specs.Order.{zarith, of-neg, ≤ℤ-antisym}
+use Rattle.algebra.specs.Order.{zarith, of+, of-, of-neg, ≤ℤ-antisym}
 use Rattle.algebra.specs.Size.{natAbs-neg}
-use Rattle.algebra.specs.Division.{Divided}
+use Rattle.algebra.specs.Ring.{*ℤ-negℤ}
+use Rattle.algebra.specs.Division.{Divided, divided-next, divided-turn, divided-neg-whole, divided-neg}
 use Rattle.meaning.specs.Extension.{emod}
 use Rattle.meaning.specs.Values.{floor, nearest, even, nearestEven, rounded}
 use Rattle.theory.specs.Remainder.{emod-divided, emod-is}
@@ -30,8 +29,8 @@ unfolding even
 even-next q = go (emod q 2) (emod-divided q (omega arith))
   where
     go : (r : ℕ) → Divided q 2 (floor q 2) r → eqb (emod (q +ℤ pos 1) 2) 0 ≡ not (eqb r 0)
-    go zero d = rw (emod-is {z = q +ℤ pos 1} {p = 2} {q = floor q 2} {r = 1} (record { below = omega arith; is = rw (d .is, rep (floor q 2)) (simp diff (omega linear)) }))
-    go (suc zero) d = rw (emod-is {z = q +ℤ pos 1} {p = 2} {q = floor q 2 +ℤ pos 1} {r = 0} (record { below = omega arith; is = rw (d .is, rep (floor q 2)) (simp diff (omega linear)) }))
+    go zero d = rw (emod-is (divided-next d (omega arith)))
+    go (suc zero) d = rw (emod-is (divided-turn d refl))
     go (suc (suc r)) d = absurd (omega (arith, d .below))
 
 pub even-neg : (q : ℤ) → even (negℤ q) ≡ even q
@@ -39,13 +38,13 @@ unfolding even
 even-neg q = go (emod q 2) (emod-divided q (omega arith))
   where
     go : (r : ℕ) → Divided q 2 (floor q 2) r → eqb (emod (negℤ q) 2) 0 ≡ eqb r 0
-    go zero d = rw (emod-is {z = negℤ q} {p = 2} {q = negℤ (floor q 2)} {r = 0} (record { below = omega arith; is = rw (d .is, rep (floor q 2)) (simp diff (omega linear)) }))
-    go (suc zero) d = rw (emod-is {z = negℤ q} {p = 2} {q = negsuc 0 -ℤ floor q 2} {r = 1} (record { below = omega arith; is = rw (d .is, rep (floor q 2)) (simp diff (omega linear)) }))
+    go zero d = rw (emod-is (divided-neg-whole d))
+    go (suc zero) d = rw (emod-is (divided-neg d (omega arith)))
     go (suc (suc r)) d = absurd (omega (arith, d .below))
 
 pub even-twice : (q : ℤ) → even q ≡ true → (h : ℤ) × (q ≡ pos 2 *ℤ h)
 unfolding even
-even-twice q e = (floor q 2, rw (eqb-true (emod q 2) 0 e) at (emod-divided q {p = 2} (omega arith) .is) ∙ ?)
+even-twice q e = (floor q 2, rw (eqb-true (emod q 2) 0 e) at (emod-divided q {p = 2} (omega arith) .is) ∙ +ℤ-idr (pos 2 *ℤ floor q 2))
 
 -- ---- a half downward
 abbrev downward : ℤ → ℕ → ℤ
@@ -53,8 +52,127 @@ downward z d = negℤ (nearest (negℤ z) d)
 
 module _ {z : ℤ} {d : ℕ} {q : ℤ} where
   down-below : {r : ℕ} → Divided z d q r → 2 * r ≤ d → downward z d ≡ q
-  down-below {zero} h l = ap negℤ (nearest-below {z = negℤ z} {d = d} {q = negℤ q} {r = 0} (record { below = h .below; is = rw (h .is, rep q) (simp diff (omega linear)) }) (h .below)) ∙ negℤ-negℤ q
-  down-below {suc r} h l = ap negℤ (nearest-above {z = negℤ z} {d = d} {q = negsuc 0 -ℤ q} {r = d - suc r} (record { below = omega arith; is = rw (h .is, rep q) (simp diff (omega (linear, h .below))) }) (omega (arith, h .below))) ∙ ?
+  down-below {r = zero} h l = ap negℤ (nearest-below (divided-neg-whole h) (h .below)) ∙ negℤ-negℤ q
+  down-below {r = suc r} h l = ap negℤ (nearest-above (divided-neg h (omega arith)) (omega (arith, h .below))) ∙ omega (zarith, of-neg (negsuc 0 -ℤ q +ℤ pos 1), of+ (negsuc 0 -ℤ q) (pos 1), of- (negsuc 0) q)
 
   down-above : {r : ℕ} → Divided z d q r → d < 2 * r → downward z d ≡ q +ℤ pos 1
-  down-above {r} h l = ap negℤ (nearest-below {z = negℤ z} {d = d} {q = negsuc 0 -ℤ q} {r = d - r} (record { below = omega arith; is = rw (h .is, rep q) (simp diff (omega (linear, h .below))) }) (omega (arith, h .below))) ∙ ?
+  down-above {r = r} h l = ap negℤ (nearest-below (divided-neg h (omega arith)) (omega (arith, h .below))) ∙ omega (zarith, of-neg (negsuc 0 -ℤ q), of- (negsuc 0) q, of+ q (pos 1))
+
+-- ---- a half to the even neighbour, by quotient and rest
+cond-same : {A : Type 0} (b : Bool) (x : A) → cond b x x ≡ x
+cond-same true x = refl
+cond-same false x = refl
+
+cond-not : {A : Type 0} (b : Bool) (x y : A) → cond (not b) x y ≡ cond b y x
+cond-not true x y = refl
+cond-not false x y = refl
+
+module _ {z : ℤ} {d : ℕ} {q : ℤ} {r : ℕ} (h : Divided z d q r) where
+  even-below : 2 * r < d → nearestEven z d ≡ q
+  unfolding nearestEven
+  even-below l = rw (nearest-below h l, down-below h (omega arith)) (cond-same (even q) q)
+
+  even-above : d < 2 * r → nearestEven z d ≡ q +ℤ pos 1
+  unfolding nearestEven
+  even-above l = rw (nearest-above h (omega arith), down-above h l) (cond-same (even (q +ℤ pos 1)) (q +ℤ pos 1))
+
+  even-tie : 2 * r ≡ d → nearestEven z d ≡ cond (even q) q (q +ℤ pos 1)
+  unfolding nearestEven
+  even-tie l = rw (nearest-above h (omega arith), down-below h (omega arith), even-next q) (cond-not (even q) (q +ℤ pos 1) q)
+
+-- ---- by a mode
+abbrev pub goesUp : ℕ → ℤ → Bool
+goesUp mode q = not (eqb mode 0) || not (even q)
+
+module _ {z : ℤ} {d : ℕ} {q : ℤ} {r : ℕ} (h : Divided z d q r) (mode : ℕ) where
+  pub rounded-below : 2 * r + cond (goesUp mode q) 1 0 ≤ d → rounded mode z d ≡ q
+  rounded-below l = go (eqb mode 0) (even q) refl l (decLt (2 * r) d)
+    where
+      go : (m e : Bool) → even q ≡ e → 2 * r + cond (not m || not e) 1 0 ≤ d → Dec (2 * r < d) → cond m (nearestEven z d) (nearest z d) ≡ q
+      go false e i l k = nearest-below h (omega arith)
+      go true e i l (yes k) = even-below h k
+      go true true i l (no k) = even-tie h (omega arith) ∙ rw i
+      go true false i l (no k) = absurd (omega arith)
+
+  pub rounded-above : d < 2 * r + cond (goesUp mode q) 1 0 → rounded mode z d ≡ q +ℤ pos 1
+  rounded-above l = go (eqb mode 0) (even q) refl l (decLt d (2 * r))
+    where
+      go : (m e : Bool) → even q ≡ e → d < 2 * r + cond (not m || not e) 1 0 → Dec (d < 2 * r) → cond m (nearestEven z d) (nearest z d) ≡ q +ℤ pos 1
+      go false e i l k = nearest-above h (omega arith)
+      go true e i l (yes k) = even-above h k
+      go true false i l (no k) = even-tie h (omega arith) ∙ rw i
+      go true true i l (no k) = absurd (omega arith)
+
+-- ---- how near it is
+-- what holds upward and downward holds
+rounded-of : (P : ℤ → Type 0) (mode : ℕ) (z : ℤ) (d : ℕ) → P (nearest z d) → P (downward z d) → P (rounded mode z d)
+unfolding nearestEven
+rounded-of P mode z d up down = go (eqb mode 0) (even (nearest z d))
+  where
+    go : (m e : Bool) → P (cond m (cond e (nearest z d) (downward z d)) (nearest z d))
+    go false e = up
+    go true true = up
+    go true false = down
+
+module _ (d : ℕ) (h : 0 < d) (z : ℤ) where
+  abbrev off : ℤ → ℕ
+  off k = natAbs (z -ℤ pos d *ℤ k)
+
+  -- the same of the negatives
+  off-negated : (k : ℤ) → natAbs (negℤ z -ℤ pos d *ℤ negℤ k) ≡ off k
+  off-negated k = ap natAbs (ap (λ x. negℤ z -ℤ x) (*ℤ-negℤ (pos d) k) ∙ sym (negℤ-+ℤ z (negℤ (pos d *ℤ k)))) ∙ natAbs-neg (z -ℤ pos d *ℤ k)
+
+  off-downward : natAbs (negℤ z -ℤ pos d *ℤ nearest (negℤ z) d) ≡ off (downward z d)
+  off-downward = ap (λ x. natAbs (negℤ z -ℤ pos d *ℤ x)) (sym (negℤ-negℤ (nearest (negℤ z) d))) ∙ off-negated (downward z d)
+
+  pub rounded-nearest : (mode : ℕ) (k : ℤ) → off (rounded mode z d) ≤ off k
+  rounded-nearest mode k = rounded-of (λ x. off x ≤ off k) mode z d (nearest-nearest d h z k) (rw (off-downward, off-negated k) at (nearest-nearest d h (negℤ z) (negℤ k)))
+
+  pub rounded-size : (mode M : ℕ) → natAbs z ≤ M * d → natAbs (rounded mode z d) ≤ M
+  rounded-size mode M l = rounded-of (λ x. natAbs x ≤ M) mode z d (nearest-size d h z M l) (rw (natAbs-neg (nearest (negℤ z) d)) (nearest-size d h (negℤ z) M (rw (natAbs-neg z) l)))
+
+  -- where upward and downward are one, no other is as near
+  one-nearest : {x : ℤ} → nearest z d ≡ x → downward z d ≡ x → (k : ℤ) → off k ≡ off x → k ≡ x
+  one-nearest {x} up down k e =
+      let low : k ≤ℤ x = rw up at (nearest-half d h z k (rw up e)) in
+      let high : negℤ k ≤ℤ nearest (negℤ z) d = nearest-half d h (negℤ z) (negℤ k) (off-negated k ∙ e ∙ ap off (sym down) ∙ sym off-downward) in
+      ≤ℤ-antisym low (omega (zarith, of-neg k, of-neg (nearest (negℤ z) d)))
+
+  pub even-half : (k : ℤ) → off k ≡ off (nearestEven z d) → (k ≡ nearestEven z d → ⊥) → even (nearestEven z d) ≡ true
+  even-half k e n = go (decLt (2 * emod z d) d) (decLt d (2 * emod z d))
+    where
+      v : Divided z d (floor z d) (emod z d)
+      v = emod-divided z h
+
+      tied : (b : Bool) → even (floor z d) ≡ b → even (cond b (floor z d) (floor z d +ℤ pos 1)) ≡ true
+      tied true i = i
+      tied false i = even-next (floor z d) ∙ rw i
+
+      go : Dec (2 * emod z d < d) → Dec (d < 2 * emod z d) → even (nearestEven z d) ≡ true
+      go (yes l) m = let i = even-below v l in absurd (n (one-nearest (nearest-below v l ∙ sym i) (down-below v (omega arith) ∙ sym i) k e))
+      go (no l) (yes m) = let i = even-above v m in absurd (n (one-nearest (nearest-above v (omega arith) ∙ sym i) (down-above v m ∙ sym i) k e))
+      go (no l) (no m) = rw (even-tie v (omega arith)) (tied (even (floor z d)) refl)
+
+  -- Of the negative, upward is the negative of downward. The two are one, or one of them is even.
+  negated-one : nearest z d ≡ downward z d → nearestEven (negℤ z) d ≡ negℤ (nearestEven z d)
+  unfolding nearestEven
+  negated-one e = rw (negℤ-negℤ z, e, negℤ-negℤ (nearest (negℤ z) d)) (cond-same (even (nearest (negℤ z) d)) _ ∙ sym (ap negℤ (cond-same (even (downward z d)) (downward z d)) ∙ negℤ-negℤ (nearest (negℤ z) d)))
+
+  negated-two : even (nearest (negℤ z) d) ≡ not (even (nearest z d)) → nearestEven (negℤ z) d ≡ negℤ (nearestEven z d)
+  unfolding nearestEven
+  negated-two e = rw (e, negℤ-negℤ z) (go (even (nearest z d)))
+    where
+      go : (b : Bool) → cond (not b) (nearest (negℤ z) d) (negℤ (nearest z d)) ≡ negℤ (cond b (nearest z d) (downward z d))
+      go true = refl
+      go false = sym (negℤ-negℤ (nearest (negℤ z) d))
+
+  pub even-negated : nearestEven (negℤ z) d ≡ negℤ (nearestEven z d)
+  even-negated = go (decLt (2 * emod z d) d) (decLt d (2 * emod z d))
+    where
+      v : Divided z d (floor z d) (emod z d)
+      v = emod-divided z h
+
+      go : Dec (2 * emod z d < d) → Dec (d < 2 * emod z d) → nearestEven (negℤ z) d ≡ negℤ (nearestEven z d)
+      go (yes l) m = negated-one (nearest-below v l ∙ sym (down-below v (omega arith)))
+      go (no l) (yes m) = negated-one (nearest-above v (omega arith) ∙ sym (down-above v m))
+      go (no l) (no m) = negated-two (sym (even-neg (nearest (negℤ z) d)) ∙ ap even (down-below v (omega arith)) ∙ sym (rw (nearest-above v (omega arith), even-next (floor z d)) (Bool·not-not (even (floor z d)))))

@@ -10,6 +10,7 @@ mod mode;
 
 // The modes: a half goes to the even neighbour, or upward, as in columns that were stored before there were modes.
 pub const EVEN: u64 = 0;
+
 pub const UPWARD: u64 = 1;
 
 // Each result over the divisor, to the nearest whole number, a half going by the mode. A refused call changes no cell.
@@ -22,7 +23,10 @@ pub fn whole_series_by(
 ) -> Answer
     ensures { λ r. ⌜ Gives (meant.wholeSeriesBy (stagesOf plan) bound mode (now (results .entry)) (now (cells .entry))) (answerOf r) (now (cells .exit)) ⌝ }
 {
-    let answer = mode::tested(outputs::inner::series(plan, bound, results, cells.len()), mode);
+    let answer = mode::tested(
+        outputs::inner::series(plan, bound, results, cells.len()),
+        mode,
+    );
     if answer.number != 0 {
         return answer;
     }
