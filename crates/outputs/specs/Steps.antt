@@ -1,7 +1,7 @@
 -- The steps of an output, each over plain lists, of any shape.
 --   Passed s d r n   what an answer of 0 leaves, d being the divisor that code has
 -- Laws: test-refused, test-rest (the rows in two parts, as code tests them), series-lengths; series-limit, picture-limit (what row 12 compares with); series-passed, picture-passed;
--- call-refused, call-done (the two ends of a call that leaves cells).
+-- own-refused, own-done, call-refused, call-done (the two ends of a call that leaves cells, with rows of its own and without).
 use Prim.Native.Nat.{ℕ, _*_, _≤_}
 use mathlib.Core.Path.{_≡_, refl, sym, _∙_, ap₂}
 use mathlib.Core.Bool.{Bool, false, _||_}
@@ -16,7 +16,7 @@ use Rattle.meaning.specs.Kernel.{divisor}
 use Rattle.meaning.specs.Refusals.{Answer, Row, firstOf, rowAt, differs, above, Shape, seriesOf, pictureOf, commonRows, planDivisor}
 use Rattle.meaning.specs.Values.{outputRows, converted}
 use Rattle.meaning.specs.Bounds.{AllowedLength, AllowedSides}
-use Rattle.theory.specs.Refusals.{number-zero, ifDone-done, ifDone-refused}
+use Rattle.theory.specs.Refusals.{number-zero, first-alone, ifDone-done, ifDone-refused}
 use Rattle.theory.specs.Tests.{no-differs}
 use Rattle.theory.specs.ShapeRows.{shape-refused, shape-rest}
 use Rattle.theory.specs.Accepted.{length-accepted, sides-accepted, accepted-divisor}
@@ -91,12 +91,22 @@ picture-passed p q M W H r n e z f g =
     passed s M (output-lent s M r n (number-zero e z) .1) (ap₂ _*_ (f ∙ accepted-divisor (stagesOf p) h) (g ∙ accepted-divisor (stagesOf q) v)) (ok .bound)
     (picture-out-divisor (stagesOf p) (stagesOf q) M W H r n allowed) (ok .product) (one-le-mul (ok .width .0) (ok .height .0))
 
--- ---- the two ends of a call whose test answered a; rows of its own come behind those of every output
+-- ---- the two ends of a call whose test answered a: with rows of its own behind those of every output, and with none
 module _ {A : Type 0} (own : List Row) (g : ℤ → ℕ → A) (s : Shape) (M : ℕ) (r : List ℤ) (cells : List A) {a : Answer} (e : a ≡ firstOf (outputRows s M r (length cells) ++ own)) where
-  pub call-refused : (a .number ≡ 0 → ⊥) → Gives (converted own g s M r cells) a cells
+  pub own-refused : (a .number ≡ 0 → ⊥) → Gives (converted own g s M r cells) a cells
   unfolding converted
-  call-refused h = rw (← e) (record { answer = refl; cells = sym (ifDone-refused a _ cells h) })
+  own-refused h = rw (← e) (record { answer = refl; cells = sym (ifDone-refused a _ cells h) })
 
-  pub call-done : a .number ≡ 0 → {d : ℕ} → d ≡ s .divisor → {left : List A} → left ≡ map (λ z. g z d) r → Gives (converted own g s M r cells) a left
+  pub own-done : a .number ≡ 0 → {d : ℕ} → d ≡ s .divisor → {left : List A} → left ≡ map (λ z. g z d) r → Gives (converted own g s M r cells) a left
   unfolding converted
-  call-done z k l = rw (← e) (record { answer = refl; cells = l ∙ rw k (sym (ifDone-done a _ cells z)) })
+  own-done z k l = rw (← e) (record { answer = refl; cells = l ∙ rw k (sym (ifDone-done a _ cells z)) })
+
+module _ {A : Type 0} (g : ℤ → ℕ → A) (s : Shape) (M : ℕ) (r : List ℤ) (cells : List A) {a : Answer} (e : a ≡ firstOf (outputRows s M r (length cells))) where
+  alone : a ≡ firstOf (outputRows s M r (length cells) ++ [])
+  alone = first-alone (outputRows s M r (length cells)) e
+
+  pub call-refused : (a .number ≡ 0 → ⊥) → Gives (converted [] g s M r cells) a cells
+  call-refused = own-refused [] g s M r cells alone
+
+  pub call-done : a .number ≡ 0 → {d : ℕ} → d ≡ s .divisor → {left : List A} → left ≡ map (λ z. g z d) r → Gives (converted [] g s M r cells) a left
+  call-done = own-done [] g s M r cells alone

@@ -2,7 +2,7 @@
 -- Laws: at-negated; results-negated, picture-negated (the results of negated samples); smooth-negated, output-negated (their rows are those of the samples and results themselves).
 use Prim.Native.Nat.{ℕ, zero, suc, _+_, _*_}
 use mathlib.Core.Path.{_≡_, refl, sym, ap, _∙_}
-use mathlib.Core.List.{List, [], _∷_, _++_, map}
+use mathlib.Core.List.{List, [], _∷_, map}
 use lib.Dec.{ltb}
 use lib.ListN.{length, length-map}
 use lib.IntN.{ℤ, pos, negsuc, negℤ, natAbs, _*ℤ_}
@@ -10,8 +10,8 @@ use Rattle.algebra.specs.Ring.{*ℤ-idl, negℤ-*ℤ}
 use Rattle.algebra.specs.Size.{natAbs-neg}
 use Rattle.meaning.specs.Extension.{at, IndexMap, ext}
 use Rattle.meaning.specs.Kernel.{Stage}
-use Rattle.meaning.specs.Smoothing.{listOf, convolved, result, results}
-use Rattle.meaning.specs.Picture.{cell, pixel, grid, picture}
+use Rattle.meaning.specs.Smoothing.{convolved, result, results}
+use Rattle.meaning.specs.Picture.{cell, pixel, picture}
 use Rattle.meaning.specs.Refusals.{Shape, above}
 use Rattle.meaning.specs.Values.{outputRows}
 use Rattle.meaning.specs.Calls.{smoothRows}

@@ -1,18 +1,20 @@
 -- The rows of an output with rows of the call's own behind them.
 --   Behind own   their numbers rise from above 12, and none has a position
--- Laws: own-rising, own-numbered; own-position (at 12), own-no-position (else); own-done, done-own (the answer is 0 exactly where that of the first part is, and none of its own applies).
-use Prim.Native.Nat.{ℕ, _*_, _<_}
+-- Laws: none-own, mode-own (no rows, and row 21, are such); mode-known, mode-other (what row 21 answers), mode-off, off-mode (it does not apply exactly to modes that are allowed); own-rising, own-numbered; own-position (at 12), own-no-position (else); own-done, done-own (the answer is 0 exactly where that of the first part is, and none of its own applies).
+use Prim.Native.Nat.{ℕ, _*_, _≤_, _<_}
 use mathlib.Core.Path.{_≡_, sym, ap, _∙_}
 use mathlib.Core.Logic.{⊎-elim}
 use mathlib.Core.List.{List, [], _++_}
 use native.Mathlib.Omega.{arith}
 use lib.ListN.{length}
 use lib.IntN.{ℤ, natAbs}
+use borrow.Author.Tests.{ltb-false, le-ltb, lt-ltb}
+use Rattle.meaning.specs.Limits.{maxMode}
 use Rattle.meaning.specs.Extension.{at}
 use Rattle.meaning.specs.Refusals.{Answer, Row, firstOf, rowAt, Shape, planRows, sizeRows}
-use Rattle.meaning.specs.Values.{outputRows}
+use Rattle.meaning.specs.Values.{outputRows, modeRows}
 use Rattle.meaning.specs.Bounds.{FirstAt}
-use Rattle.theory.specs.Refusals.{done, Off, Numbered, Rising, RisingFrom, Unplaced, done-off, off-done, off-append, append-off, first-either, first-above, first-unplaced, rising-numbered}
+use Rattle.theory.specs.Refusals.{done, Off, Numbered, Rising, RisingFrom, Unplaced, first-on, done-off, off-done, off-append, append-off, first-either, first-above, first-unplaced, rising-numbered}
 use Rattle.theory.specs.AcceptedOutputs.{output-numbered, output-position, output-no-position}
 
 pub record Behind (own : List Row) : Type 0 where
@@ -22,6 +24,28 @@ pub record Behind (own : List Row) : Type 0 where
 
 pub none-own : Behind []
 none-own = record { rising = tt; most = 0; unplaced = tt }
+
+-- ---- row 21
+pub mode-own : (mode : ℕ) → Behind (modeRows mode)
+unfolding modeRows
+mode-own mode = record { rising = tt; most = 22; unplaced = tt }
+
+pub mode-off : (mode : ℕ) → Off (modeRows mode) → mode ≤ maxMode
+unfolding modeRows
+mode-off mode h = ltb-false maxMode mode (h .0)
+
+pub off-mode : (mode : ℕ) → mode ≤ maxMode → Off (modeRows mode)
+unfolding modeRows
+off-mode mode l = (le-ltb maxMode mode l, tt)
+
+pub mode-known : (mode : ℕ) → mode ≤ maxMode → firstOf (modeRows mode) ≡ done
+mode-known mode l = off-done (modeRows mode) (off-mode mode l)
+
+pub mode-other : (mode : ℕ) → maxMode < mode → firstOf (modeRows mode) ≡ record { number = 21; position = 0; bad = 0 }
+unfolding modeRows
+mode-other mode l = first-on _ [] (lt-ltb maxMode mode l)
+
+-- ---- the rows of both parts
 
 module _ (s : Shape) (M : ℕ) (r : List ℤ) (n : ℕ) (own : List Row) where
   abbrev first : List Row

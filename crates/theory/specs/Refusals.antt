@@ -9,7 +9,7 @@
 --   Lower a b c       c is that of a and b with the lower number, where 0 is none
 -- Laws: first-on, first-off (the first row applies, or not), first-applies (the answer is that of a row that applies), first-lowest (where the numbers rise, of the lowest);
 -- first-parts (the answer is that of rows without position, or that of the rest), first-unplaced;
--- done-off, off-done, done-none, none-done (it is 0 exactly where none applies); number-lowest, number-none, number-exactly (of a call that answers that number); number-zero (of two answers that are the same); applies-append, off-append, append-off; refused-first, done-rest, first-then, first-either (rows in two parts), first-alone (of no second part); rising-numbered, first-above (where the numbers rise);
+-- done-off, off-done, done-none, none-done (it is 0 exactly where none applies); number-lowest, number-none, number-exactly (of a call that answers that number); number-zero (of two answers that are the same); applies-append, off-append, append-off; refused-first, done-rest, first-then, then-done, first-either (rows in two parts), first-alone (of no second part); rising-numbered, first-above (where the numbers rise);
 -- off-more, more-off (the same tests of one thing more), two-lower (of two things, by the rows of each);
 -- ifDone-done, ifDone-refused, ifDone-ext; plan-numbered, common-numbered, common-size (where row 7 applies, row 8 does not matter).
 use mathlib.Core.Path.{_≡_, refl, sym, _∙_, ap}
@@ -181,6 +181,23 @@ module _ (rows : List Row) {n : ℕ} (e : n ≡ firstOf rows .number) where
       go (yes l) h m = absurd (lower n l h)
       go (no l) h m = omega arith
 
+-- ---- what a call leaves
+pub ifDone-done : {A : Type 0} (a : Answer) (new old : A) → a .number ≡ 0 → ifDone a new old ≡ new
+unfolding ifDone
+ifDone-done a new old e = rw (eq-eqb (a .number) 0 e)
+
+pub ifDone-refused : {A : Type 0} (a : Answer) (new old : A) → (a .number ≡ 0 → ⊥) → ifDone a new old ≡ old
+unfolding ifDone
+ifDone-refused a new old e = rw (ne-eqb (a .number) 0 e)
+
+pub ifDone-ext : {A : Type 0} (a : Answer) {new new′ : A} (old : A) → (a .number ≡ 0 → new ≡ new′) → ifDone a new old ≡ ifDone a new′ old
+unfolding ifDone
+ifDone-ext a {new} {new′} old h = go (eqb (a .number) 0) (λ e. h (eqb-true (a .number) 0 e))
+  where
+    go : (b : Bool) → (b ≡ true → new ≡ new′) → cond b new old ≡ cond b new′ old
+    go true k = k refl
+    go false k = refl
+
 -- ---- rows in two parts
 pub applies-append : (rows : List Row) {more : List Row} {n : ℕ} → Applies n more → Applies n (rows ++ more)
 applies-append [] h = h
@@ -214,12 +231,18 @@ done-rest rows more {a} t e z f = f ∙ sym (off-skip rows more (done-off rows t
 
 -- a call that has tested the first part, and the rest only where that answered 0
 pub first-then : (rows more : List Row) {a b : Answer} → Numbered rows → a ≡ firstOf rows → b ≡ ifDone a (firstOf more) a → b ≡ firstOf (rows ++ more)
-unfolding ifDone
 first-then rows more {a} t e f = f ∙ go (ℕ-discrete (a .number) 0)
   where
     go : Dec (a .number ≡ 0) → ifDone a (firstOf more) a ≡ firstOf (rows ++ more)
-    go (yes z) = rw (eq-eqb (a .number) 0 z) (done-rest rows more t e z refl)
-    go (no n) = rw (ne-eqb (a .number) 0 n) (refused-first rows more e n)
+    go (yes z) = ifDone-done a (firstOf more) a z ∙ done-rest rows more t e z refl
+    go (no n) = ifDone-refused a (firstOf more) a n ∙ refused-first rows more e n
+
+pub then-done : (a c : Answer) {b : Answer} → b ≡ ifDone a c a → b .number ≡ 0 → a .number ≡ 0
+then-done a c f z = go (ℕ-discrete (a .number) 0)
+  where
+    go : Dec (a .number ≡ 0) → a .number ≡ 0
+    go (yes e) = e
+    go (no e) = sym (ap (λ (x : Answer). x .number) (f ∙ ifDone-refused a c a e)) ∙ z
 
 -- the answer is that of the first part, or that of the rest
 pub first-either : (rows more : List Row) → Numbered rows → {a : Answer} → a ≡ firstOf (rows ++ more) → (a ≡ firstOf rows) ⊎ (Off rows × (a ≡ firstOf more))
@@ -267,23 +290,6 @@ two-lower m [] x y t = (λ h. refl, λ h. refl)
 two-lower m {A} ((n, test) ∷ tests) x y t =
     let u : (xs : List A) → (m < n) × T (risesFrom n (rowsOf tests xs)) = λ xs. split-lt m n (risesFrom n (rowsOf tests xs)) (t xs) in
     lower-step _ _ _ _ (test x) (test y) (omega (arith, u [] .0)) (first-above n (rowsOf tests (x ∷ [])) (u _ .1)) (first-above n (rowsOf tests (y ∷ [])) (u _ .1)) (two-lower n tests x y (λ xs. u xs .1))
-
--- ---- what a call leaves
-pub ifDone-done : {A : Type 0} (a : Answer) (new old : A) → a .number ≡ 0 → ifDone a new old ≡ new
-unfolding ifDone
-ifDone-done a new old e = rw (eq-eqb (a .number) 0 e)
-
-pub ifDone-refused : {A : Type 0} (a : Answer) (new old : A) → (a .number ≡ 0 → ⊥) → ifDone a new old ≡ old
-unfolding ifDone
-ifDone-refused a new old e = rw (ne-eqb (a .number) 0 e)
-
-pub ifDone-ext : {A : Type 0} (a : Answer) {new new′ : A} (old : A) → (a .number ≡ 0 → new ≡ new′) → ifDone a new old ≡ ifDone a new′ old
-unfolding ifDone
-ifDone-ext a {new} {new′} old h = go (eqb (a .number) 0) (λ e. h (eqb-true (a .number) 0 e))
-  where
-    go : (b : Bool) → (b ≡ true → new ≡ new′) → cond b new old ≡ cond b new′ old
-    go true k = k refl
-    go false k = refl
 
 -- ---- the rows that calls share
 pub plan-numbered : (ps : List (List Stage)) → Numbered (planRows ps)

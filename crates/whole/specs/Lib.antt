@@ -1,3 +1,5 @@
 -- The laws of this crate's steps.
---   Rounding   a quotient to the nearest whole number, as the code finds it
+--   Parity     odd and even by the language's own remainder
+--   Rounding   a quotient rounded, as the code finds it
+pub mod Parity
 pub mod Rounding

@@ -1,51 +1,16 @@
--- Refused, nothing was touched; done, each cell is that of its result.
-use Prim.Native.Nat.{_*_}
-use native.Mathlib.Omega.{arith}
-use lib.ListN.{length}
+-- The call without a mode is that in mode 0.
 use borrow.Author.Needs.{needs}
-use Rattle.meaning.specs.Refusals.{pictureOf}
-use Rattle.meaning.specs.Values.{nearest}
-use Rattle.plan.specs.Structs.{stagesOf}
-use Rattle.outputs.specs.Steps.{Passed, picture-passed, call-refused, call-done}
 use Rattle.whole.proofs.whole_picture.Statement.{statement}
 use Rattle.whole.proofs.whole_picture.Tie as tie
 
-picture-requires : tie.Need-picture-requires
-picture-requires c κs = search needs
-
-returns : tie.Need-returns
-returns c =
-    let a = c .before .before .before .args in
-    call-refused nearest (pictureOf (stagesOf (a .across)) (stagesOf (a .down)) (a .width) (a .height)) (a .bound) (a .results .now) (a .cells .now) (c .before .before .picture .ensures) (c .if1 .taken)
-
-divisor-requires : tie.Need-divisor-requires
-divisor-requires c κs = search needs
-
-divisor-requires-2 : tie.Need-divisor-requires-2
-divisor-requires-2 c κs = search needs
-
--- what the test leaves
-passed : (c : tie.After-divisor2) → Passed (pictureOf (stagesOf (c .before .before .before .before .before .args .across)) (stagesOf (c .before .before .before .before .before .args .down)) (c .before .before .before .before .before .args .width) (c .before .before .before .before .before .args .height)) (c .before .divisor .result * c .divisor2 .result) (c .before .before .before .before .before .args .results .now) (length (c .before .before .before .before .before .args .cells .now))
-passed c =
-    let a = c .before .before .before .before .before .args in
-    picture-passed (a .across) (a .down) (a .bound) (a .width) (a .height) (a .results .now) (length (a .cells .now)) (c .before .before .before .before .picture .ensures) (c .before .before .if1 .left) (c .before .divisor .ensures) (c .divisor2 .ensures)
-
-mul-whole-into : tie.Need-mul-whole-into
-mul-whole-into c = omega (arith, passed c .small)
-
-whole-into-requires : tie.Need-whole-into-requires
-whole-into-requires c κs = passed (c .before) .convertible
+whole-picture-by-requires : tie.Need-whole-picture-by-requires
+whole-picture-by-requires c κs = search needs
 
 same-length : tie.Need-same-length
 same-length c = search needs
 
-returns-2 : tie.Need-returns-2
-returns-2 c =
-    let d = c .before .before .before in
-    let a = d .before .before .before .before .before .args in
-    call-done nearest (pictureOf (stagesOf (a .across)) (stagesOf (a .down)) (a .width) (a .height)) (a .bound) (a .results .now) (a .cells .now) (d .before .before .before .before .picture .ensures) (d .before .before .if1 .left) (passed d .divides) (c .before .whole-into .ensures)
+returns : tie.Need-returns
+returns c = c .before .whole-picture-by .ensures
 
 pub whole-picture-spec : {M : Type 1} → statement M
-whole-picture-spec =
-    tie.close
-    (tie.spec picture-requires returns divisor-requires divisor-requires-2 mul-whole-into whole-into-requires same-length returns-2)
+whole-picture-spec = tie.close (tie.spec whole-picture-by-requires same-length returns)
