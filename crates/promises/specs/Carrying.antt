@@ -20,7 +20,7 @@
 use Prim.Native.Nat.{ℕ, suc, _*_, _≤_, _<_}
 use mathlib.Core.Path.{_≡_, sym, ap, ap₂, _∙_}
 use mathlib.Core.Logic.{_≢_}
-use mathlib.Core.List.{List}
+use mathlib.Core.List.{List, []}
 use lib.ListN.{length}
 use lib.IntN.{ℤ, pos, natAbs, _+ℤ_, _-ℤ_, _*ℤ_}
 use contract.Lifetimes.{Lfts}
@@ -39,7 +39,8 @@ use Rattle.meaning.specs.Carry.{carryCell, Carried, carried, carrySeries, carry
 use Rattle.meaning.specs.Bounds.{AllowedSeries, AllowedPicture, AllowedSeriesOut, AllowedPictureOut}
 use Rattle.theory.specs.HalfSample.{half-sample, half-sample-balanced}
 use Rattle.theory.specs.Lists.{length-listOf, at-listOf}
-use Rattle.theory.specs.Refusals.{ifDone-done, ifDone-refused}
+use Rattle.theory.specs.Refusals.{first-alone, ifDone-done, ifDone-refused}
+use Rattle.theory.specs.OwnRows.{none-own}
 use Rattle.theory.specs.Totals.{total, total-listOf, results-total, picture-total}
 use Rattle.theory.specs.Passes.{length-results}
 use Rattle.theory.specs.Picture.{length-picture}
@@ -55,7 +56,7 @@ use Rattle.carry.proofs.carry_series.Kinds as series-kinds
 use Rattle.carry.proofs.carry_picture.Reads as picture-call
 use Rattle.carry.proofs.carry_picture.Kinds as picture-kinds
 use Rattle.promises.specs.Smoothings.{Exactly}
-use Rattle.promises.specs.Outputs.{Output, output-whole, output-small, output-series, output-picture, seriesOutput, pictureOutput}
+use Rattle.promises.specs.Outputs.{Output, output-whole, output-small, output-series, output-picture, alone, seriesOutput, pictureOutput}
 use Rattle.promises.specs.SmoothSeries as series
 use Rattle.promises.specs.Pictures as pictures
 
@@ -116,7 +117,7 @@ ofSeries c =
     let cells = now (c .given .1 .1 .1 .0) in
     let s = seriesOf (stagesOf (plan c)) (length r) in
     record {
-      out = seriesOutput (c .given .1 .0) r cells (stagesOf (plan c)) (carried-answers s (c .given .1 .0) r cells (c .learnt)) (carried-leaves s (c .given .1 .0) r cells (c .learnt));
+      out = seriesOutput [] none-own (c .given .1 .0) r cells (stagesOf (plan c)) (first-alone _ (carried-answers s (c .given .1 .0) r cells (c .learnt))) (carried-leaves s (c .given .1 .0) r cells (c .learnt));
       carry = c .answered .carry;
       carries = carried-carries s (c .given .1 .0) r cells (c .learnt);
     }
@@ -128,7 +129,7 @@ ofPicture c =
     let cells = now (c .given .1 .1 .1 .1 .1 .1 .0) in
     let s = pictureOf (stagesOf (across c)) (stagesOf (down c)) (width c) (height c) in
     record {
-      out = pictureOutput M r cells (stagesOf (across c)) (stagesOf (down c)) (width c) (height c) (carried-answers s M r cells (c .learnt)) (carried-leaves s M r cells (c .learnt));
+      out = pictureOutput [] none-own M r cells (stagesOf (across c)) (stagesOf (down c)) (width c) (height c) (first-alone _ (carried-answers s M r cells (c .learnt))) (carried-leaves s M r cells (c .learnt));
       carry = c .answered .carry;
       carries = carried-carries s M r cells (c .learnt);
     }
@@ -192,10 +193,10 @@ carried-picture-true c e f n h = whole-total (ofPicture c) e (ap total h ∙ pic
 
 -- ---- its bounds
 pub carry-series-allowed : (c : SeriesCall) → Exactly (ofSeries c .out .answer .number ≡ 0) (AllowedSeriesOut (stagesOf (plan c)) (ofSeries c .out .bound) (ofSeries c .out .results) (length (ofSeries c .out .cells)))
-carry-series-allowed c = output-series _ _ _ (stagesOf (plan c)) (ofSeries c .out .answers)
+carry-series-allowed c = alone (output-series _ _ _ [] none-own (stagesOf (plan c)) (ofSeries c .out .answers))
 
 pub carry-picture-allowed : (c : PictureCall) → Exactly (ofPicture c .out .answer .number ≡ 0) (AllowedPictureOut (stagesOf (across c)) (stagesOf (down c)) (ofPicture c .out .bound) (width c) (height c) (ofPicture c .out .results) (length (ofPicture c .out .cells)))
-carry-picture-allowed c = output-picture _ _ _ (stagesOf (across c)) (stagesOf (down c)) (width c) (height c) (ofPicture c .out .answers)
+carry-picture-allowed c = alone (output-picture _ _ _ [] none-own (stagesOf (across c)) (stagesOf (down c)) (width c) (height c) (ofPicture c .out .answers))
 
 -- ---- behind a smoothing
 series-out : {p q : Plan} {M L n nr nw : ℕ} {r f : List ℤ} → p ≡ q → M ≡ L → r ≡ smoothing.results fold (stagesOf q) f → n ≡ length r → AllowedSeries (stagesOf q) L f nr nw → AllowedSeriesOut (stagesOf p) M r n

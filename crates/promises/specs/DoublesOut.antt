@@ -10,6 +10,7 @@
 use Prim.Native.Nat.{ℕ, _<_}
 use mathlib.Core.Path.{_≡_, ap, _∙_}
 use mathlib.Core.Bool.{false}
+use mathlib.Core.List.{[]}
 use native.Mathlib.Nat.{le-trans}
 use lib.ListN.{length, getD}
 use lib.IntN.{ℤ, pos, natAbs}
@@ -24,6 +25,7 @@ use Rattle.meaning.specs.Extension.{at}
 use Rattle.meaning.specs.Values.{ratio, plusZero}
 use Rattle.meaning.specs.Bounds.{AllowedSeriesOut, AllowedPictureOut}
 use Rattle.theory.specs.Values.{whole-exact, count-exact, ratio-zero}
+use Rattle.theory.specs.OwnRows.{none-own}
 use Rattle.plan.specs.declared.Plan.{Plan}
 use Rattle.plan.specs.Structs.{stagesOf}
 use Rattle.doubles.proofs.doubles_series.Reads as series-call
@@ -31,7 +33,7 @@ use Rattle.doubles.proofs.doubles_series.Kinds as series-kinds
 use Rattle.doubles.proofs.doubles_picture.Reads as picture-call
 use Rattle.doubles.proofs.doubles_picture.Kinds as picture-kinds
 use Rattle.promises.specs.Smoothings.{Exactly}
-use Rattle.promises.specs.Outputs.{Output, each, output-cell, output-small, output-divisor, output-series, output-picture, convertedSeries, convertedPicture, series-inputs, picture-inputs, output-same}
+use Rattle.promises.specs.Outputs.{Output, each, output-cell, output-small, output-divisor, output-series, output-picture, alone, convertedSeries, convertedPicture, series-inputs, picture-inputs, output-same}
 
 pub record SeriesCall : Type 1 where
   pub lifetimes : Lfts 2
@@ -64,10 +66,10 @@ abbrev pub height : PictureCall → ℕ
 height c = c .given .1 .1 .1 .1 .0
 
 abbrev pub ofSeries : SeriesCall → Output (each ratio)
-ofSeries c = convertedSeries ratio (c .given .1 .0) (now (c .given .1 .1 .0)) (now (c .given .1 .1 .1 .0)) (stagesOf (plan c)) (c .learnt)
+ofSeries c = convertedSeries [] none-own ratio (c .given .1 .0) (now (c .given .1 .1 .0)) (now (c .given .1 .1 .1 .0)) (stagesOf (plan c)) (c .learnt)
 
 abbrev pub ofPicture : PictureCall → Output (each ratio)
-ofPicture c = convertedPicture ratio (c .given .1 .1 .0) (now (c .given .1 .1 .1 .1 .1 .0)) (now (c .given .1 .1 .1 .1 .1 .1 .0)) (stagesOf (across c)) (stagesOf (down c)) (width c) (height c) (c .learnt)
+ofPicture c = convertedPicture [] none-own ratio (c .given .1 .1 .0) (now (c .given .1 .1 .1 .1 .1 .0)) (now (c .given .1 .1 .1 .1 .1 .1 .0)) (stagesOf (across c)) (stagesOf (down c)) (width c) (height c) (c .learnt)
 
 -- ---- its cells
 module _ (o : Output (each ratio)) (e : o .answer .number ≡ 0) {i : ℕ} (l : i < length (o .results)) where
@@ -95,16 +97,16 @@ module _ (o : Output (each ratio)) (e : o .answer .number ≡ 0) {i : ℕ} (l : 
 
 -- ---- its bounds
 pub doubles-series-allowed : (c : SeriesCall) → Exactly (ofSeries c .answer .number ≡ 0) (AllowedSeriesOut (stagesOf (plan c)) (ofSeries c .bound) (ofSeries c .results) (length (ofSeries c .cells)))
-doubles-series-allowed c = output-series _ _ _ (stagesOf (plan c)) (ofSeries c .answers)
+doubles-series-allowed c = alone (output-series _ _ _ [] none-own (stagesOf (plan c)) (ofSeries c .answers))
 
 pub doubles-picture-allowed : (c : PictureCall) → Exactly (ofPicture c .answer .number ≡ 0) (AllowedPictureOut (stagesOf (across c)) (stagesOf (down c)) (ofPicture c .bound) (width c) (height c) (ofPicture c .results) (length (ofPicture c .cells)))
-doubles-picture-allowed c = output-picture _ _ _ (stagesOf (across c)) (stagesOf (down c)) (width c) (height c) (ofPicture c .answers)
+doubles-picture-allowed c = alone (output-picture _ _ _ [] none-own (stagesOf (across c)) (stagesOf (down c)) (width c) (height c) (ofPicture c .answers))
 
 -- ---- two calls
 pub doubles-series-one : (c d : SeriesCall) → plan c ≡ plan d → ofSeries c .bound ≡ ofSeries d .bound → ofSeries c .results ≡ ofSeries d .results → ofSeries c .cells ≡ ofSeries d .cells
     → (c .answered ≡ d .answered) × (ofSeries c .left ≡ ofSeries d .left)
-doubles-series-one c d p m r x = output-same (series-inputs ratio p m r x) (c .learnt) (d .learnt)
+doubles-series-one c d p m r x = output-same (series-inputs [] ratio p m r x) (c .learnt) (d .learnt)
 
 pub doubles-picture-one : (c d : PictureCall) → across c ≡ across d → down c ≡ down d → ofPicture c .bound ≡ ofPicture d .bound → width c ≡ width d → height c ≡ height d
     → ofPicture c .results ≡ ofPicture d .results → ofPicture c .cells ≡ ofPicture d .cells → (c .answered ≡ d .answered) × (ofPicture c .left ≡ ofPicture d .left)
-doubles-picture-one c d p q m w h r x = output-same (picture-inputs ratio p q m w h r x) (c .learnt) (d .learnt)
+doubles-picture-one c d p q m w h r x = output-same (picture-inputs [] ratio p q m w h r x) (c .learnt) (d .learnt)

@@ -33,12 +33,14 @@ use Rattle.meaning.specs.Kernel.{tap, passAt, kernel, width, reach, tapSum, div
 use Rattle.meaning.specs.Smoothing as smoothing
 use Rattle.meaning.specs.Smoothing.{listOf, convolved, weight, near}
 use Rattle.meaning.specs.Refusals as meant
-use Rattle.meaning.specs.Refusals.{firstOf, firstWhere, countWhere, rowAt, some, planRows, sizeRows, Shape, seriesOf, pictureOf, ifDone}
+use Rattle.meaning.specs.Refusals.{firstOf, Applies, firstWhere, countWhere, rowAt, some, planRows, sizeRows, Shape, seriesOf, pictureOf, ifDone}
 use Rattle.meaning.specs.Calls.{smoothRows, gained, editRows, changed, Edited, editSeries, pointRows, point}
 use Rattle.meaning.specs.Values.{takes, doubleRows, doublesIn, outputRows, Summary, summary}
 use Rattle.meaning.specs.Bounds.{AllowedSigma}
 use Rattle.meaning.specs.Encoding.{bytes, number}
 use Rattle.meaning.specs.Record.{Job, field, sampleBytes, recordOf, begins, reading, readRecord, recordSize}
+use Rattle.theory.specs.Refusals.{none-done}
+use Rattle.theory.specs.OwnRows.{own-rest}
 use Rattle.plan.specs.declared.Plan.{Plan}
 use Rattle.plan.specs.declared.Point.{Point}
 use Rattle.plan.specs.Structs.{stageOf, stagesOf, editAnswer, pointAnswer, pointOf-done}
@@ -201,8 +203,8 @@ unfolding outputRows firstOf firstWhere rowAt some planRows sizeRows tapSum divi
 output-number (inl s) m r n = rw (s, m, r, n) refl
 output-number (inr s) m r n = rw (s, m, r, n) refl
 
-pub output-not-refused : {A : Type 0} {made : ℕ → List ℤ → List A} (o : Output made) → Small (o .shape) → o .bound ≡ 9 → o .results ≡ pos 16 ∷ pos 12 ∷ pos 4 ∷ [] → length (o .cells) ≡ 3 → o .answer .number ≡ 0
-output-not-refused o s m r n = ap (λ (a : meant.Answer). a .number) (o .answers) ∙ output-number s m r n
+pub output-not-refused : {A : Type 0} {made : ℕ → List ℤ → List A} (o : Output made) → Small (o .shape) → o .bound ≡ 9 → o .results ≡ pos 16 ∷ pos 12 ∷ pos 4 ∷ [] → length (o .cells) ≡ 3 → ((k : ℕ) → Applies k (o .own) → ⊥) → o .answer .number ≡ 0
+output-not-refused o s m r n k = ap (λ (a : meant.Answer). a .number) (o .answers ∙ own-rest _ _ _ _ _ (output-number s m r n)) ∙ none-done (o .own) k
 
 pub summary-not-refused : (o : Summing) → Small (o .shape) → o .bound ≡ 9 → o .results ≡ pos 16 ∷ pos 12 ∷ pos 4 ∷ [] → o .answered .answer .number ≡ 0
 unfolding summary

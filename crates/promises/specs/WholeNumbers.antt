@@ -1,14 +1,20 @@
--- Whole numbers out: `whole::whole_series` and `whole::whole_picture` by their own contracts, for all inputs.
---   SeriesCall, PictureCall   any call, as its contract lets it end
---   plan; across, down, width, height   the plan of the one; plans and sides of the other
---   ofSeries c, ofPicture c   all that it was given, answered and left, as an Output: what Outputs says holds of both
---   whole-nearest      where it is done, no whole number is nearer to the quotient than the cell: times the divisor, its distance from the result is the least
---   whole-half         of two that are as near, the cell is the upper one
+-- Whole numbers out: `whole::whole_series_by` and `whole::whole_picture_by`, and the forms without a mode, `whole::whole_series` and `whole::whole_picture`, by their own contracts, for all inputs.
+--   SeriesCall, PictureCall         any call in a mode, as its contract lets it end;  SeriesDefault, PictureDefault  any call without one
+--   WholeSeries, WholePicture       what a call of either form was given, answered and left; its contract is `gives`
+--   seriesIn c, pictureIn c         that of a call in a mode;  seriesBy c, pictureBy c  of one without, whose mode is 0
+--   ofSeries w, ofPicture w         the same as an Output: what Outputs says holds of both. Its own row is 21
+--   whole-nearest      where it is done, no whole number is nearer to the quotient than the cell, in either mode: times the divisor, its distance from the result is the least
+--   whole-even         in mode 0, where another is as near, the cell is twice a whole number
+--   whole-half         in mode 1, of two that are as near, the cell is the upper one
+--   whole-upward       in mode 1 the cell is that of the rule before there were modes
 --   whole-size         and the cell has size at most the bound
---   whole-series-allowed, whole-picture-allowed   it is done exactly where the bounds hold
---   whole-series-one, whole-picture-one   two outcomes that the contract allows are the same
+--   whole-series-allowed, whole-picture-allowed   it is done exactly where the bounds hold and the mode is 0 or 1
+--   whole-series-21, whole-picture-21   it answers 21 exactly where the bounds hold and the mode is another
+--   whole-series-one, whole-picture-one   two outcomes that the contracts allow, of either form, are the same
 use Prim.Native.Nat.{ℕ, _≤_, _<_}
-use mathlib.Core.Path.{_≡_}
+use mathlib.Core.Path.{_≡_, refl, sym, ap, ap₂, _∙_}
+use mathlib.Core.Logic.{_≢_}
+use mathlib.Core.List.{List}
 use lib.ListN.{length}
 use lib.IntN.{ℤ, pos, natAbs, _-ℤ_, _*ℤ_}
 use lib.Signed.{_≤ℤ_}
@@ -16,25 +22,45 @@ use contract.Lifetimes.{Lfts}
 use denote.Ref.{now}
 use denote.Triple.Clauses.{AtExit}
 use borrow.Fn.Kinds.{Dens, resT, endedOf}
+use Rattle.meaning.specs.Limits.{maxMode}
 use Rattle.meaning.specs.Extension.{at}
-use Rattle.meaning.specs.Values.{nearest}
+use Rattle.meaning.specs.Refusals as meant
+use Rattle.meaning.specs.Values.{nearest, nearestEven, rounded, modeRows, wholeSeriesBy, wholePictureBy}
 use Rattle.meaning.specs.Bounds.{AllowedSeriesOut, AllowedPictureOut}
-use Rattle.theory.specs.Nearest.{nearest-nearest, nearest-half, nearest-size}
+use Rattle.theory.specs.Nearest.{nearest-half}
+use Rattle.theory.specs.Rounded.{rounded-nearest, rounded-size, even-half, even-twice}
+use Rattle.theory.specs.OwnRows.{mode-own, mode-off, off-mode, mode-refused, refused-mode}
+use Rattle.theory.specs.Refusals.{Off}
+use Rattle.theory.specs.AcceptedOutputs.{series-out-allowed, allowed-series-out, picture-out-allowed, allowed-picture-out}
+use Rattle.plan.specs.declared.Answer.{Answer}
 use Rattle.plan.specs.declared.Plan.{Plan}
-use Rattle.plan.specs.Structs.{stagesOf}
-use Rattle.whole.proofs.whole_series.Reads as series-call
-use Rattle.whole.proofs.whole_series.Kinds as series-kinds
-use Rattle.whole.proofs.whole_picture.Reads as picture-call
-use Rattle.whole.proofs.whole_picture.Kinds as picture-kinds
+use Rattle.plan.specs.Structs.{stagesOf, answerOf}
+use Rattle.plan.specs.Contract.{Gives}
+use Rattle.whole.proofs.whole_series_by.Reads as series-call
+use Rattle.whole.proofs.whole_series_by.Kinds as series-kinds
+use Rattle.whole.proofs.whole_picture_by.Reads as picture-call
+use Rattle.whole.proofs.whole_picture_by.Kinds as picture-kinds
+use Rattle.whole.proofs.whole_series.Reads as series-default
+use Rattle.whole.proofs.whole_series.Kinds as series-default-kinds
+use Rattle.whole.proofs.whole_picture.Reads as picture-default
+use Rattle.whole.proofs.whole_picture.Kinds as picture-default-kinds
 use Rattle.promises.specs.Smoothings.{Exactly}
-use Rattle.promises.specs.Outputs.{Output, each, output-cell, output-small, output-series, output-picture, convertedSeries, convertedPicture, series-inputs, picture-inputs, output-same}
+use Rattle.promises.specs.Outputs.{Output, each, output-cell, output-small, output-series, output-picture, convertedSeries, convertedPicture, output-same}
 
+-- ---- calls
 pub record SeriesCall : Type 1 where
   pub lifetimes : Lfts 2
   pub given : Dens lifetimes series-kinds.ps
   pub answered : resT series-kinds.r lifetimes .Denot
   pub left : AtExit (endedOf 2 series-kinds.ps series-kinds.r) lifetimes
   pub learnt : series-call.Learnt lifetimes given answered left
+
+pub record SeriesDefault : Type 1 where
+  pub lifetimes : Lfts 2
+  pub given : Dens lifetimes series-default-kinds.ps
+  pub answered : resT series-default-kinds.r lifetimes .Denot
+  pub left : AtExit (endedOf 2 series-default-kinds.ps series-default-kinds.r) lifetimes
+  pub learnt : series-default.Learnt lifetimes given answered left
 
 pub record PictureCall : Type 1 where
   pub lifetimes : Lfts 2
@@ -43,30 +69,99 @@ pub record PictureCall : Type 1 where
   pub left : AtExit (endedOf 2 picture-kinds.ps picture-kinds.r) lifetimes
   pub learnt : picture-call.Learnt lifetimes given answered left
 
+pub record PictureDefault : Type 1 where
+  pub lifetimes : Lfts 2
+  pub given : Dens lifetimes picture-default-kinds.ps
+  pub answered : resT picture-default-kinds.r lifetimes .Denot
+  pub left : AtExit (endedOf 2 picture-default-kinds.ps picture-default-kinds.r) lifetimes
+  pub learnt : picture-default.Learnt lifetimes given answered left
+
 -- ---- what was given, answered and left
-abbrev pub plan : SeriesCall → Plan
-plan c = c .given .0
+pub record WholeSeries : Type 0 where
+  pub plan : Plan
+  pub bound : ℕ
+  pub mode : ℕ
+  pub results : List ℤ
+  pub cells : List ℤ
+  pub answered : Answer
+  pub left : List ℤ
+  pub gives : Gives (wholeSeriesBy (stagesOf plan) bound mode results cells) (answerOf answered) left
 
-abbrev pub across : PictureCall → Plan
-across c = c .given .0
+pub record WholePicture : Type 0 where
+  pub across : Plan
+  pub down : Plan
+  pub bound : ℕ
+  pub width : ℕ
+  pub height : ℕ
+  pub mode : ℕ
+  pub results : List ℤ
+  pub cells : List ℤ
+  pub answered : Answer
+  pub left : List ℤ
+  pub gives : Gives (wholePictureBy (stagesOf across) (stagesOf down) bound width height mode results cells) (answerOf answered) left
 
-abbrev pub down : PictureCall → Plan
-down c = c .given .1 .0
+abbrev pub seriesIn : SeriesCall → WholeSeries
+seriesIn c = record {
+  plan = c .given .0;
+  bound = c .given .1 .0;
+  mode = c .given .1 .1 .0;
+  results = now (c .given .1 .1 .1 .0);
+  cells = now (c .given .1 .1 .1 .1 .0);
+  answered = c .answered;
+  left = now (c .left .1 .1 .1 .1 .0);
+  gives = c .learnt;
+}
 
-abbrev pub width : PictureCall → ℕ
-width c = c .given .1 .1 .1 .0
+abbrev pub seriesBy : SeriesDefault → WholeSeries
+seriesBy c = record {
+  plan = c .given .0;
+  bound = c .given .1 .0;
+  mode = 0;
+  results = now (c .given .1 .1 .0);
+  cells = now (c .given .1 .1 .1 .0);
+  answered = c .answered;
+  left = now (c .left .1 .1 .1 .0);
+  gives = c .learnt;
+}
 
-abbrev pub height : PictureCall → ℕ
-height c = c .given .1 .1 .1 .1 .0
+abbrev pub pictureIn : PictureCall → WholePicture
+pictureIn c = record {
+  across = c .given .0;
+  down = c .given .1 .0;
+  bound = c .given .1 .1 .0;
+  width = c .given .1 .1 .1 .0;
+  height = c .given .1 .1 .1 .1 .0;
+  mode = c .given .1 .1 .1 .1 .1 .0;
+  results = now (c .given .1 .1 .1 .1 .1 .1 .0);
+  cells = now (c .given .1 .1 .1 .1 .1 .1 .1 .0);
+  answered = c .answered;
+  left = now (c .left .1 .1 .1 .1 .1 .1 .1 .0);
+  gives = c .learnt;
+}
 
-abbrev pub ofSeries : SeriesCall → Output (each nearest)
-ofSeries c = convertedSeries nearest (c .given .1 .0) (now (c .given .1 .1 .0)) (now (c .given .1 .1 .1 .0)) (stagesOf (plan c)) (c .learnt)
+abbrev pub pictureBy : PictureDefault → WholePicture
+pictureBy c = record {
+  across = c .given .0;
+  down = c .given .1 .0;
+  bound = c .given .1 .1 .0;
+  width = c .given .1 .1 .1 .0;
+  height = c .given .1 .1 .1 .1 .0;
+  mode = 0;
+  results = now (c .given .1 .1 .1 .1 .1 .0);
+  cells = now (c .given .1 .1 .1 .1 .1 .1 .0);
+  answered = c .answered;
+  left = now (c .left .1 .1 .1 .1 .1 .1 .0);
+  gives = c .learnt;
+}
 
-abbrev pub ofPicture : PictureCall → Output (each nearest)
-ofPicture c = convertedPicture nearest (c .given .1 .1 .0) (now (c .given .1 .1 .1 .1 .1 .0)) (now (c .given .1 .1 .1 .1 .1 .1 .0)) (stagesOf (across c)) (stagesOf (down c)) (width c) (height c) (c .learnt)
+abbrev pub ofSeries : (w : WholeSeries) → Output (each (rounded (w .mode)))
+ofSeries w = convertedSeries (modeRows (w .mode)) (mode-own (w .mode)) (rounded (w .mode)) (w .bound) (w .results) (w .cells) (stagesOf (w .plan)) (w .gives)
+
+abbrev pub ofPicture : (w : WholePicture) → Output (each (rounded (w .mode)))
+ofPicture w = convertedPicture (modeRows (w .mode)) (mode-own (w .mode)) (rounded (w .mode)) (w .bound) (w .results) (w .cells) (stagesOf (w .across)) (stagesOf (w .down)) (w .width) (w .height) (w .gives)
 
 -- ---- its cells
-module _ (o : Output (each nearest)) (e : o .answer .number ≡ 0) {i : ℕ} (l : i < length (o .results)) where
+module _ (mode : ℕ) (o : Output (each (rounded mode))) (e : o .answer .number ≡ 0) {i : ℕ} (l : i < length (o .results)) where
   abbrev D : ℤ
   D = pos (o .shape .divisor)
 
@@ -76,30 +171,59 @@ module _ (o : Output (each nearest)) (e : o .answer .number ≡ 0) {i : ℕ} (l 
   abbrev cell : ℤ
   cell = at (o .left) i
 
-  cell-is : cell ≡ nearest result (o .shape .divisor)
+  cell-is : cell ≡ rounded mode result (o .shape .divisor)
   cell-is = output-cell o e (pos 0) l
 
   pub whole-nearest : (k : ℤ) → natAbs (result -ℤ D *ℤ cell) ≤ natAbs (result -ℤ D *ℤ k)
-  whole-nearest k = rw cell-is (nearest-nearest _ (o .divides e) result k)
+  whole-nearest k = rw cell-is (rounded-nearest _ (o .divides e) result mode k)
 
-  pub whole-half : (k : ℤ) → natAbs (result -ℤ D *ℤ k) ≡ natAbs (result -ℤ D *ℤ cell) → k ≤ℤ cell
-  whole-half k h = rw cell-is (nearest-half _ (o .divides e) result k (rw cell-is at h))
+  pub whole-even : mode ≡ 0 → (k : ℤ) → natAbs (result -ℤ D *ℤ k) ≡ natAbs (result -ℤ D *ℤ cell) → k ≢ cell → (h : ℤ) × (cell ≡ pos 2 *ℤ h)
+  whole-even m k h n =
+      let is : cell ≡ nearestEven result (o .shape .divisor) = cell-is ∙ ap (λ n. rounded n result (o .shape .divisor)) m in
+      rw is (even-twice _ (even-half _ (o .divides e) result k (rw is at h) (λ i. n (i ∙ sym is))))
+
+  pub whole-upward : mode ≡ 1 → cell ≡ nearest result (o .shape .divisor)
+  whole-upward m = cell-is ∙ ap (λ n. rounded n result (o .shape .divisor)) m
+
+  pub whole-half : mode ≡ 1 → (k : ℤ) → natAbs (result -ℤ D *ℤ k) ≡ natAbs (result -ℤ D *ℤ cell) → k ≤ℤ cell
+  whole-half m k h = let is = whole-upward m in rw is (nearest-half _ (o .divides e) result k (rw is at h))
 
   pub whole-size : natAbs cell ≤ o .bound
-  whole-size = rw cell-is (nearest-size _ (o .divides e) result (o .bound) (output-small o e .1 i l))
+  whole-size = rw cell-is (rounded-size _ (o .divides e) result mode (o .bound) (output-small o e .1 i l))
 
 -- ---- its bounds
-pub whole-series-allowed : (c : SeriesCall) → Exactly (ofSeries c .answer .number ≡ 0) (AllowedSeriesOut (stagesOf (plan c)) (ofSeries c .bound) (ofSeries c .results) (length (ofSeries c .cells)))
-whole-series-allowed c = output-series _ _ _ (stagesOf (plan c)) (ofSeries c .answers)
+allowed-mode : (mode : ℕ) {A B : Type 0} → Exactly A (B × Off (modeRows mode)) → Exactly A (B × (mode ≤ maxMode))
+allowed-mode mode h = (λ a. let (b, o) = h .0 a in (b, mode-off mode o), λ b. h .1 (b .0, off-mode mode (b .1)))
 
-pub whole-picture-allowed : (c : PictureCall) → Exactly (ofPicture c .answer .number ≡ 0) (AllowedPictureOut (stagesOf (across c)) (stagesOf (down c)) (ofPicture c .bound) (width c) (height c) (ofPicture c .results) (length (ofPicture c .cells)))
-whole-picture-allowed c = output-picture _ _ _ (stagesOf (across c)) (stagesOf (down c)) (width c) (height c) (ofPicture c .answers)
+pub whole-series-allowed : (w : WholeSeries) → Exactly (w .answered .number ≡ 0) (AllowedSeriesOut (stagesOf (w .plan)) (w .bound) (w .results) (length (w .cells)) × (w .mode ≤ maxMode))
+whole-series-allowed w = allowed-mode (w .mode) (output-series _ _ _ _ (mode-own (w .mode)) (stagesOf (w .plan)) (ofSeries w .answers))
+
+pub whole-picture-allowed : (w : WholePicture) → Exactly (w .answered .number ≡ 0) (AllowedPictureOut (stagesOf (w .across)) (stagesOf (w .down)) (w .bound) (w .width) (w .height) (w .results) (length (w .cells)) × (w .mode ≤ maxMode))
+whole-picture-allowed w = allowed-mode (w .mode) (output-picture _ _ _ _ (mode-own (w .mode)) (stagesOf (w .across)) (stagesOf (w .down)) (w .width) (w .height) (ofPicture w .answers))
+
+pub whole-series-21 : (w : WholeSeries) → Exactly (w .answered .number ≡ 21) (AllowedSeriesOut (stagesOf (w .plan)) (w .bound) (w .results) (length (w .cells)) × (maxMode < w .mode))
+whole-series-21 w = (
+  λ e. let (z, l) = mode-refused _ _ _ _ (w .mode) (ofSeries w .answers) e in (series-out-allowed _ _ _ _ z, l),
+  λ ok. refused-mode _ _ _ _ (w .mode) (ofSeries w .answers) (ap (λ (x : meant.Answer). x .number) (allowed-series-out _ _ _ _ (ok .0))) (ok .1),
+)
+
+pub whole-picture-21 : (w : WholePicture) → Exactly (w .answered .number ≡ 21) (AllowedPictureOut (stagesOf (w .across)) (stagesOf (w .down)) (w .bound) (w .width) (w .height) (w .results) (length (w .cells)) × (maxMode < w .mode))
+whole-picture-21 w = (
+  λ e. let (z, l) = mode-refused _ _ _ _ (w .mode) (ofPicture w .answers) e in (picture-out-allowed _ _ _ _ _ _ _ z, l),
+  λ ok. refused-mode _ _ _ _ (w .mode) (ofPicture w .answers) (ap (λ (x : meant.Answer). x .number) (allowed-picture-out _ _ _ _ _ _ _ (ok .0))) (ok .1),
+)
 
 -- ---- two calls
-pub whole-series-one : (c d : SeriesCall) → plan c ≡ plan d → ofSeries c .bound ≡ ofSeries d .bound → ofSeries c .results ≡ ofSeries d .results → ofSeries c .cells ≡ ofSeries d .cells
-    → (c .answered ≡ d .answered) × (ofSeries c .left ≡ ofSeries d .left)
-whole-series-one c d p m r x = output-same (series-inputs nearest p m r x) (c .learnt) (d .learnt)
+series-same : {p q : Plan} {M L m n : ℕ} {r s x y : List ℤ} → p ≡ q → M ≡ L → m ≡ n → r ≡ s → x ≡ y → wholeSeriesBy (stagesOf p) M m r x ≡ wholeSeriesBy (stagesOf q) L n s y
+series-same p m k r x = rw (p, m, k, r, x)
 
-pub whole-picture-one : (c d : PictureCall) → across c ≡ across d → down c ≡ down d → ofPicture c .bound ≡ ofPicture d .bound → width c ≡ width d → height c ≡ height d
-    → ofPicture c .results ≡ ofPicture d .results → ofPicture c .cells ≡ ofPicture d .cells → (c .answered ≡ d .answered) × (ofPicture c .left ≡ ofPicture d .left)
-whole-picture-one c d p q m w h r x = output-same (picture-inputs nearest p q m w h r x) (c .learnt) (d .learnt)
+pub whole-series-one : (v w : WholeSeries) → v .plan ≡ w .plan → v .bound ≡ w .bound → v .mode ≡ w .mode → v .results ≡ w .results → v .cells ≡ w .cells
+    → (v .answered ≡ w .answered) × (v .left ≡ w .left)
+whole-series-one v w p m k r x = output-same (series-same p m k r x) (v .gives) (w .gives)
+
+picture-same : {p q t u : Plan} {M L W X H Y m n : ℕ} {r s x y : List ℤ} → p ≡ q → t ≡ u → M ≡ L → W ≡ X → H ≡ Y → m ≡ n → r ≡ s → x ≡ y → wholePictureBy (stagesOf p) (stagesOf t) M W H m r x ≡ wholePictureBy (stagesOf q) (stagesOf u) L X Y n s y
+picture-same p t m w h k r x = rw (p, t, m, w, h, k, r, x)
+
+pub whole-picture-one : (v w : WholePicture) → v .across ≡ w .across → v .down ≡ w .down → v .bound ≡ w .bound → v .width ≡ w .width → v .height ≡ w .height → v .mode ≡ w .mode
+    → v .results ≡ w .results → v .cells ≡ w .cells → (v .answered ≡ w .answered) × (v .left ≡ w .left)
+whole-picture-one v w p q m x y k r c = output-same (picture-same p q m x y k r c) (v .gives) (w .gives)

@@ -1,6 +1,6 @@
 -- The rows of an output, of any shape: which positions they answer; the results of a series and of a picture are put out exactly where their bounds hold.
 --   Lent s M r n   what rows 8 and 12 ask: results r and n cells as many as the shape has, and no result above M times the divisor
--- Laws: output-rising, output-numbered; output-lent (rows 1 to 8, and what is lent), output-bounds (the bound, and its product with the divisor); output-position (at 12), output-no-position (else);
+-- Laws: output-rising, output-numbered; output-lent (rows 1 to 8, and what is lent), output-bounds (the bound, and its product with the divisor); output-position (at 12), output-below, output-no-position (else);
 -- series-out-allowed, allowed-series-out, series-out-divisor; picture-out-allowed, allowed-picture-out, picture-out-divisor (the divisor is not 0), picture-out-some (there are results);
 -- series-smoothed-out, picture-smoothed-out (what a smoothing that is done leaves can be put out).
 use mathlib.Core.Path.{_≡_, refl, sym, _∙_}
@@ -25,7 +25,7 @@ use Rattle.theory.specs.Passes.{length-results}
 use Rattle.theory.specs.Sizes.{results-size}
 use Rattle.theory.specs.Picture.{length-picture, picture-size}
 use Rattle.theory.specs.Refusals.{done, Off, Numbered, Rising, Unplaced, done-off, off-done}
-use Rattle.theory.specs.ShapeRows.{shape-bounds, shape-off, off-shape, shape-position, shape-no-position}
+use Rattle.theory.specs.ShapeRows.{shape-bounds, shape-off, off-shape, shape-position, shape-below, shape-no-position}
 use Rattle.theory.specs.Tests.{or-no, no-or, differs-no, no-differs}
 use Rattle.theory.specs.Accepted.{length-allowed, allowed-length, sides-allowed, allowed-sides, divisor-allowed}
 
@@ -78,6 +78,10 @@ module _ (s : Shape) (M : ℕ) (r : List ℤ) (n : ℕ) where
     pub output-position : x .number ≡ 12 → FirstAt (length r) (λ i. M * s .divisor < natAbs (at r i)) (x .position)
     unfolding outputRows
     output-position h = shape-position s M wrong 12 common-unplaced (omega arith) (M * s .divisor) r e h
+
+    pub output-below : (x .number ≡ 12 → ⊥) → x .number < 12
+    unfolding outputRows
+    output-below h = shape-below s M wrong 12 common-unplaced (omega arith) (M * s .divisor) r e h
 
     pub output-no-position : (x .number ≡ 12 → ⊥) → x .position ≡ 0
     unfolding outputRows

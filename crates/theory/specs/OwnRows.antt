@@ -1,10 +1,11 @@
 -- The rows of an output with rows of the call's own behind them.
 --   Behind own   their numbers rise from above 12, and none has a position
--- Laws: none-own, mode-own (no rows, and row 21, are such); mode-known, mode-other (what row 21 answers), mode-off, off-mode (it does not apply exactly to modes that are allowed); own-rising, own-numbered; own-position (at 12), own-no-position (else); own-done, done-own (the answer is 0 exactly where that of the first part is, and none of its own applies).
+-- Laws: none-own, mode-own (no rows, and row 21, are such); mode-known, mode-other (what row 21 answers), mode-off, off-mode (it does not apply exactly to modes that are allowed); own-rising, own-numbered; own-position (at 12), own-no-position (else); own-answers (a number above 12 is of its own rows), own-done, own-rest (where the first part answers 0); mode-refused, refused-mode (21 exactly where the first part answers 0 and the mode is another).
 use Prim.Native.Nat.{ℕ, _*_, _≤_, _<_}
-use mathlib.Core.Path.{_≡_, sym, ap, _∙_}
+use mathlib.Core.Path.{_≡_, refl, sym, ap, _∙_}
 use mathlib.Core.Logic.{⊎-elim}
 use mathlib.Core.List.{List, [], _++_}
+use native.Mathlib.Decide.{decLt}
 use native.Mathlib.Omega.{arith}
 use lib.ListN.{length}
 use lib.IntN.{ℤ, natAbs}
@@ -14,8 +15,8 @@ use Rattle.meaning.specs.Extension.{at}
 use Rattle.meaning.specs.Refusals.{Answer, Row, firstOf, rowAt, Shape, planRows, sizeRows}
 use Rattle.meaning.specs.Values.{outputRows, modeRows}
 use Rattle.meaning.specs.Bounds.{FirstAt}
-use Rattle.theory.specs.Refusals.{done, Off, Numbered, Rising, RisingFrom, Unplaced, first-on, done-off, off-done, off-append, append-off, first-either, first-above, first-unplaced, rising-numbered}
-use Rattle.theory.specs.AcceptedOutputs.{output-numbered, output-position, output-no-position}
+use Rattle.theory.specs.Refusals.{done, Off, Numbered, Rising, RisingFrom, Unplaced, first-on, number-zero, done-off, off-done, append-off, done-rest, first-either, first-above, first-unplaced, rising-numbered}
+use Rattle.theory.specs.AcceptedOutputs.{output-numbered, output-position, output-below, output-no-position}
 
 pub record Behind (own : List Row) : Type 0 where
   pub rising : RisingFrom 12 own
@@ -73,10 +74,31 @@ module _ (s : Shape) (M : ℕ) (r : List ℤ) (n : ℕ) (own : List Row) where
           (λ p. ap (λ (a : Answer). a .position) (p .1) ∙ first-unplaced (k .most) own (k .unplaced))
           (first-either first own (output-numbered s M r n) e)
 
-    pub own-done : {x : Answer} → x ≡ firstOf (first ++ own) → x .number ≡ 0 → (firstOf first .number ≡ 0) × Off own
-    own-done e z =
-        let (a, b) = append-off first own (done-off (first ++ own) own-numbered (sym (ap (λ (a : Answer). a .number) e) ∙ z)) in
-        (ap (λ (x : Answer). x .number) (off-done first a), b)
+      -- a number that none of the first part has
+      pub own-answers : 12 < x .number → (firstOf first .number ≡ 0) × (x ≡ firstOf own)
+      own-answers l = ⊎-elim
+          (λ f. let no : ⊥ = omega (arith, output-below s M r n f (λ h. omega arith)) in absurd no)
+          (λ p. (ap (λ (a : Answer). a .number) (off-done first (p .0)), p .1))
+          (first-either first own (output-numbered s M r n) e)
 
-  pub done-own : firstOf first ≡ done → Off own → firstOf (first ++ own) ≡ done
-  done-own e o = off-done (first ++ own) (off-append first own (done-off first (output-numbered s M r n) (ap (λ (x : Answer). x .number) e)) o)
+      pub own-done : x .number ≡ 0 → (firstOf first .number ≡ 0) × Off own
+      own-done z =
+          let (a, b) = append-off first own (done-off (first ++ own) own-numbered (number-zero e z)) in
+          (ap (λ (x : Answer). x .number) (off-done first a), b)
+
+  pub own-rest : firstOf first .number ≡ 0 → firstOf (first ++ own) ≡ firstOf own
+  own-rest z = sym (done-rest first own (output-numbered s M r n) refl z refl)
+
+-- ---- whole output, whose own row is 21
+module _ (s : Shape) (M : ℕ) (r : List ℤ) (n mode : ℕ) {x : Answer} (e : x ≡ firstOf (outputRows s M r n ++ modeRows mode)) where
+  pub mode-refused : x .number ≡ 21 → (firstOf (outputRows s M r n) .number ≡ 0) × (maxMode < mode)
+  mode-refused h =
+      let (z, f) = own-answers s M r n (modeRows mode) (mode-own mode) e (omega arith) in
+      (z, go (decLt maxMode mode) (ap (λ (a : Answer). a .number) f))
+    where
+      go : Dec (maxMode < mode) → x .number ≡ firstOf (modeRows mode) .number → maxMode < mode
+      go (yes l) f = l
+      go (no l) f = let g = ap (λ (a : Answer). a .number) (mode-known mode (omega arith)) in let no : ⊥ = omega arith in absurd no
+
+  pub refused-mode : firstOf (outputRows s M r n) .number ≡ 0 → maxMode < mode → x .number ≡ 21
+  refused-mode z l = ap (λ (a : Answer). a .number) (e ∙ own-rest s M r n (modeRows mode) z ∙ mode-other mode l)

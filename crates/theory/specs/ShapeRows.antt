@@ -1,6 +1,6 @@
 -- Rows 1 to 8 of any shape, and after them one row with a position.
 --   shapeRows s M w n N t   those rows: w says that a length is wrong, and row n is at the first of 0 .. N - 1 where t is true
--- Laws: shape-bounds (what rows 5 and 6 say of any shape); shape-off, off-shape (none of them applies); shape-position, shape-no-position (of a row n above 8 that looks at sizes); shape-refused, shape-rest (in two parts, as code tests them: where row 7 applies, row 8 does not matter).
+-- Laws: shape-bounds (what rows 5 and 6 say of any shape); shape-off, off-shape (none of them applies); shape-position, shape-below, shape-no-position (of a row n above 8 that looks at sizes: at n, and else); shape-refused, shape-rest (in two parts, as code tests them: where row 7 applies, row 8 does not matter).
 use mathlib.Core.Path.{_≡_, _∙_}
 use mathlib.Core.Bool.{Bool, false}
 use mathlib.Core.List.{List, [], _∷_, _++_}
@@ -48,6 +48,9 @@ module _ (s : Shape) (M : ℕ) (w : Bool) (n N : ℕ) (t : ℕ → Bool) where
 module _ (s : Shape) (M : ℕ) (w : Bool) (n : ℕ) (u : Unplaced n (commonRows s M w)) (l : 0 < n) (L : ℕ) (f : List ℤ) {a : Answer} (e : a ≡ firstOf (shapeRows s M w n (length f) (λ i. above L (at f i)))) where
   pub shape-position : a .number ≡ n → FirstAt (length f) (λ i. L < natAbs (at f i)) (a .position)
   shape-position h = first-map (λ i l k. ltb-true _ _ k) (λ i l k. lt-ltb _ _ k) (place-here n (length f) (commonRows s M w) u _ l e h .first)
+
+  pub shape-below : (a .number ≡ n → ⊥) → a .number < n
+  shape-below h = place-other n (length f) (commonRows s M w) u _ l e h .0
 
   pub shape-no-position : (a .number ≡ n → ⊥) → a .position ≡ 0
   shape-no-position h = place-other n (length f) (commonRows s M w) u _ l e h .1
