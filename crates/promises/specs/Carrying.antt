@@ -56,7 +56,7 @@ use Rattle.carry.proofs.carry_series.Kinds as series-kinds
 use Rattle.carry.proofs.carry_picture.Reads as picture-call
 use Rattle.carry.proofs.carry_picture.Kinds as picture-kinds
 use Rattle.promises.specs.Smoothings.{Exactly}
-use Rattle.promises.specs.Outputs.{Output, output-whole, output-small, output-series, output-picture, alone, seriesOutput, pictureOutput}
+use Rattle.promises.specs.Outputs.{Output, output-whole, output-small, output-series, output-picture, alone, seriesOutput, pictureOutput, series-smoothed, picture-smoothed}
 use Rattle.promises.specs.SmoothSeries as series
 use Rattle.promises.specs.Pictures as pictures
 
@@ -199,20 +199,13 @@ pub carry-picture-allowed : (c : PictureCall) → Exactly (ofPicture c .out .ans
 carry-picture-allowed c = alone (output-picture _ _ _ [] none-own (stagesOf (across c)) (stagesOf (down c)) (width c) (height c) (ofPicture c .out .answers))
 
 -- ---- behind a smoothing
-series-out : {p q : Plan} {M L n nr nw : ℕ} {r f : List ℤ} → p ≡ q → M ≡ L → r ≡ smoothing.results fold (stagesOf q) f → n ≡ length r → AllowedSeries (stagesOf q) L f nr nw → AllowedSeriesOut (stagesOf p) M r n
-series-out {q} {f} p m r n ok = rw (p, m, r) (series-smoothed-out fold (stagesOf q) ok (n ∙ ap length r ∙ length-results fold (stagesOf q) f))
-
 pub carried-smooth-series : (s : series.SeriesCall) (c : SeriesCall) → series.number s ≡ 0 → plan c ≡ series.plan s → ofSeries c .out .bound ≡ series.bound s → ofSeries c .out .results ≡ series.resultsLeft s → length (ofSeries c .out .cells) ≡ length (ofSeries c .out .results)
     → (ofSeries c .out .answer .number ≡ 0) × (ofSeries c .carry ≡ 0) × (total (ofSeries c .out .left) ≡ total (series.samples s))
 carried-smooth-series s c e p m r n =
     let is = r ∙ series.done-whole s e in
-    let done = carry-series-allowed c .1 (series-out p m is n (series.done-allowed s .0 e)) in
+    let done = carry-series-allowed c .1 (series-smoothed p m is n (series.done-allowed s .0 e)) in
     let (k, t) = carried-series-true c done (series.samples s) (is ∙ ap (λ (q : Plan). smoothing.results fold (stagesOf q) (series.samples s)) (sym p)) in
     (done, k, t)
-
-picture-out : {p q t u : Plan} {M L W X H Y n nr nw : ℕ} {r f : List ℤ} → p ≡ q → t ≡ u → M ≡ L → W ≡ X → H ≡ Y → r ≡ picture fold fold (stagesOf q) (stagesOf u) X Y f → n ≡ length r → AllowedPicture (stagesOf q) (stagesOf u) L X Y f nr nw
-    → AllowedPictureOut (stagesOf p) (stagesOf t) M W H r n
-picture-out {q} {u} {X} {Y} {f} p t m w h r n ok = rw (p, t, m, w, h, r) (picture-smoothed-out fold fold (stagesOf q) (stagesOf u) ok (n ∙ ap length r ∙ length-picture fold fold (stagesOf q) (stagesOf u) X Y f))
 
 picture-is : {p q t u : Plan} {W X H Y : ℕ} (f : List ℤ) → p ≡ q → t ≡ u → W ≡ X → H ≡ Y → picture fold fold (stagesOf q) (stagesOf u) X Y f ≡ picture fold fold (stagesOf p) (stagesOf t) W H f
 picture-is f p t w h = rw (p, t, w, h)
@@ -224,7 +217,7 @@ carried-smooth-picture s c e p t m w h r n =
     let f = pictures.samples s in
     let ok = pictures.picture-allowed s .0 e in
     let is = r ∙ pictures.picture-whole s e in
-    let done = carry-picture-allowed c .1 (picture-out p t m w h is n ok) in
+    let done = carry-picture-allowed c .1 (picture-smoothed p t m w h is n ok) in
     let (k, x) = carried-picture-true c done f (ok .count ∙ ap₂ _*_ (sym w) (sym h)) (is ∙ picture-is f p t w h) in
     (done, k, x)
 

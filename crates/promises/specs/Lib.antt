@@ -8,6 +8,7 @@
 --   DoublesIn      doubles taken as samples
 --   Outputs        putting results out, of any shape and in any form
 --   WholeNumbers   results as whole numbers
+--   Negation   negated samples, results and whole numbers
 --   Carrying       results as whole numbers that add up
 --   DoublesOut     results as doubles
 --   Summaries      the lowest and the highest
@@ -24,6 +25,7 @@ pub mod Points
 pub mod DoublesIn
 pub mod Outputs
 pub mod WholeNumbers
+pub mod Negation
 pub mod Carrying
 pub mod DoublesOut
 pub mod Summaries

@@ -13,6 +13,7 @@
 --   output-small, output-divisor   no result is above M times the divisor, nor are that and the divisor above the largest result
 --   output-series, output-picture   the number is 0 exactly where the bounds of a series hold, and of a picture, and none of its own rows applies;  alone  of one that has none
 --   series-divides, picture-divides   and then the divisor is not 0
+--   series-smoothed, picture-smoothed   what a smoothing that is done leaves has these bounds
 --   series-inputs, picture-inputs   the definitions give the same outcome of the same inputs
 --   output-same      so two outcomes are the same
 use Prim.Native.Nat.{ℕ, _*_, _≤_, _<_}
@@ -24,14 +25,18 @@ use native.Mathlib.Omega.{arith}
 use lib.ListN.{length, getD, length-map}
 use lib.IntN.{ℤ, pos, natAbs}
 use Rattle.meaning.specs.Limits.{maxResult}
-use Rattle.meaning.specs.Extension.{at}
+use Rattle.meaning.specs.Extension.{at, fold}
 use Rattle.meaning.specs.Kernel.{Stage, divisor}
 use Rattle.meaning.specs.Refusals.{Answer, Row, firstOf, Applies, Shape, seriesOf, pictureOf, ifDone}
 use Rattle.meaning.specs.Values.{Converted, outputRows, converted}
-use Rattle.meaning.specs.Bounds.{AllowedSeriesOut, AllowedPictureOut, FirstAt}
+use Rattle.meaning.specs.Smoothing as smoothing
+use Rattle.meaning.specs.Picture.{picture}
+use Rattle.meaning.specs.Bounds.{AllowedSeries, AllowedPicture, AllowedSeriesOut, AllowedPictureOut, FirstAt}
 use Rattle.theory.specs.Refusals.{done, Off, off-done, number-lowest, number-none, ifDone-done, ifDone-refused}
 use Rattle.theory.specs.Fill.{getD-map}
 use Rattle.theory.specs.AcceptedOutputs as tested
+use Rattle.theory.specs.Passes.{length-results}
+use Rattle.theory.specs.Picture.{length-picture}
 use Rattle.theory.specs.OwnRows.{Behind, own-rising, own-numbered, own-position, own-no-position, own-done, own-rest}
 use Rattle.plan.specs.declared.Answer as answered
 use Rattle.plan.specs.declared.Plan.{Plan}
@@ -145,6 +150,14 @@ module _ {A : Type 0} (own : List Row) (k : Behind own) (g : ℤ → ℕ → A) 
 
   abbrev pub convertedPicture : (hs vs : List Stage) (W H : ℕ) → Gives (converted own g (pictureOf hs vs W H) M r cells) a left → Output (each g)
   convertedPicture hs vs W H h = let s = pictureOf hs vs W H in pictureOutput own k M r cells hs vs W H (converted-answers own g s M r cells h) (converted-leaves own g s M r cells h)
+
+-- ---- behind a smoothing
+pub series-smoothed : {p q : Plan} {M L n nr nw : ℕ} {r f : List ℤ} → p ≡ q → M ≡ L → r ≡ smoothing.results fold (stagesOf q) f → n ≡ length r → AllowedSeries (stagesOf q) L f nr nw → AllowedSeriesOut (stagesOf p) M r n
+series-smoothed {q} {f} p m r n ok = rw (p, m, r) (tested.series-smoothed-out fold (stagesOf q) ok (n ∙ ap length r ∙ length-results fold (stagesOf q) f))
+
+pub picture-smoothed : {p q t u : Plan} {M L W X H Y n nr nw : ℕ} {r f : List ℤ} → p ≡ q → t ≡ u → M ≡ L → W ≡ X → H ≡ Y → r ≡ picture fold fold (stagesOf q) (stagesOf u) X Y f → n ≡ length r → AllowedPicture (stagesOf q) (stagesOf u) L X Y f nr nw
+    → AllowedPictureOut (stagesOf p) (stagesOf t) M W H r n
+picture-smoothed {q} {u} {X} {Y} {f} p t m w h r n ok = rw (p, t, m, w, h, r) (tested.picture-smoothed-out fold fold (stagesOf q) (stagesOf u) ok (n ∙ ap length r ∙ length-picture fold fold (stagesOf q) (stagesOf u) X Y f))
 
 -- ---- two calls
 module _ {A : Type 0} (own : List Row) (g : ℤ → ℕ → A) where

@@ -1,5 +1,6 @@
 -- Smoothing of any shape, from what its contract says (`Gives`): what holds of a series and of a picture alike.
 --   Exactly A B      A where B, and B where A
+--   answers          the answer is that of the first row that applies
 --   lowest           the number is 0, or that of a row that applies, and then the lowest of those
 --   done-exactly     it is 0 exactly where no row applies
 --   place-first, place-other   at 11 the place is that of the first sample above the bound, else 0
@@ -31,12 +32,12 @@ module _ (s : Shape) (M : ℕ) (new f r w : List ℤ) {a : Answer} {rl wl : List
   abbrev rows : List Row
   rows = smoothRows s M f (length r) (length w)
 
-  answer-is : a ≡ firstOf rows
+  pub answers : a ≡ firstOf rows
   unfolding smoothed
-  answer-is = h .answer
+  answers = h .answer
 
   number-is : a .number ≡ firstOf rows .number
-  number-is = ap (λ (x : Answer). x .number) answer-is
+  number-is = ap (λ (x : Answer). x .number) answers
 
   pub done-number : a .number ≡ 0 → firstOf rows .number ≡ 0
   done-number e = sym number-is ∙ e
@@ -51,13 +52,13 @@ module _ (s : Shape) (M : ℕ) (new f r w : List ℤ) {a : Answer} {rl wl : List
   done-exactly = number-none rows number-is (smooth-numbered s M f _ _)
 
   pub place-first : a .number ≡ 11 → FirstAt (length f) (λ i. M < natAbs (at f i)) (a .position)
-  place-first = smooth-position s M f _ _ answer-is
+  place-first = smooth-position s M f _ _ answers
 
   pub place-other : a .number ≢ 11 → a .position ≡ 0
-  place-other = smooth-no-position s M f _ _ answer-is
+  place-other = smooth-no-position s M f _ _ answers
 
   pub counted : Counted (λ i. M < natAbs (at f i)) (length f) rows a
-  counted = smooth-bad s M f _ _ answer-is
+  counted = smooth-bad s M f _ _ answers
 
   pub unchanged : a .number ≢ 0 → (rl ≡ r) × (wl ≡ w)
   unfolding smoothed

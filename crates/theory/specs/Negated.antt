@@ -1,7 +1,7 @@
 -- Negated samples and results: what smoothing and the outputs make of them.
--- Laws: at-negated; results-negated, picture-negated (the results of negated samples); smooth-negated, output-negated (their rows are those of the samples and results themselves).
-use Prim.Native.Nat.{ℕ, zero, suc, _+_, _*_}
-use mathlib.Core.Path.{_≡_, refl, sym, ap, _∙_}
+-- Laws: at-negated; results-negated, picture-negated (the results of negated samples); even-negated-each (a half to the even neighbour, of negated results); smooth-negated, output-negated (their rows are those of the samples and results themselves).
+use Prim.Native.Nat.{ℕ, zero, suc, _+_, _*_, _<_}
+use mathlib.Core.Path.{_≡_, refl, sym, ap, ap₂, _∙_}
 use mathlib.Core.List.{List, [], _∷_, map}
 use lib.Dec.{ltb}
 use lib.ListN.{length, length-map}
@@ -13,12 +13,13 @@ use Rattle.meaning.specs.Kernel.{Stage}
 use Rattle.meaning.specs.Smoothing.{convolved, result, results}
 use Rattle.meaning.specs.Picture.{cell, pixel, picture}
 use Rattle.meaning.specs.Refusals.{Shape, above}
-use Rattle.meaning.specs.Values.{outputRows}
+use Rattle.meaning.specs.Values.{nearestEven, outputRows}
 use Rattle.meaning.specs.Calls.{smoothRows}
 use Rattle.theory.specs.Lists.{listOf-ext, listOf-map}
 use Rattle.theory.specs.Convolution.{convolved-ext, convolved-*}
 use Rattle.theory.specs.Picture.{grid-ext, grid-map}
 use Rattle.theory.specs.Places.{rowAt-ext}
+use Rattle.theory.specs.Rounded.{even-negated}
 
 pub at-negated : (f : List ℤ) (i : ℕ) → at (map negℤ f) i ≡ negℤ (at f i)
 at-negated [] i = refl
@@ -49,6 +50,11 @@ picture-negated φ ψ hs vs W H f =
     grid-ext W H (λ x y l m. convolved-ext hs (λ i. convolved-ext vs (λ j. at-negated f (ψ H j * W + φ W i)) (pos y) ∙ convolved-negated vs (λ j. cell W f (φ W i) (ψ H j)) (pos y)) (pos x)
     ∙ convolved-negated hs (λ i. convolved vs (λ j. cell W f (φ W i) (ψ H j)) (pos y)) (pos x))
     ∙ grid-map negℤ W H _
+
+-- ---- whole output
+pub even-negated-each : (d : ℕ) → 0 < d → (r : List ℤ) → map (λ z. nearestEven z d) (map negℤ r) ≡ map negℤ (map (λ z. nearestEven z d) r)
+even-negated-each d h [] = refl
+even-negated-each d h (z ∷ r) = ap₂ _∷_ (even-negated d h z) (even-negated-each d h r)
 
 -- ---- rows
 pub smooth-negated : (s : Shape) (M : ℕ) (f : List ℤ) (nr nw : ℕ) → smoothRows s M (map negℤ f) nr nw ≡ smoothRows s M f nr nw
