@@ -36,15 +36,12 @@ use Rattle.meaning.specs.Refusals.{Answer, firstOf, Shape, seriesOf, pictureOf,
 use Rattle.meaning.specs.Values.{outputRows}
 use Rattle.meaning.specs.Carry as meant
 use Rattle.meaning.specs.Carry.{carryCell, Carried, carried, carrySeries, carryPicture}
-use Rattle.meaning.specs.Bounds.{AllowedSeries, AllowedPicture, AllowedSeriesOut, AllowedPictureOut}
+use Rattle.meaning.specs.Bounds.{AllowedSeriesOut, AllowedPictureOut}
 use Rattle.theory.specs.HalfSample.{half-sample, half-sample-balanced}
 use Rattle.theory.specs.Lists.{length-listOf, at-listOf}
 use Rattle.theory.specs.Refusals.{first-alone, ifDone-done, ifDone-refused}
 use Rattle.theory.specs.OwnRows.{none-own}
 use Rattle.theory.specs.Totals.{total, total-listOf, results-total, picture-total}
-use Rattle.theory.specs.Passes.{length-results}
-use Rattle.theory.specs.Picture.{length-picture}
-use Rattle.theory.specs.AcceptedOutputs.{series-smoothed-out, picture-smoothed-out}
 use Rattle.theory.specs.Carry.{carry-none, carry-below, carry-divided, carry-near, carry-size, carry-sum, carry-whole}
 use Rattle.plan.specs.declared.Plan.{Plan}
 use Rattle.plan.specs.Structs.{stagesOf}

@@ -8,7 +8,7 @@
 --   DoublesIn      doubles taken as samples
 --   Outputs        putting results out, of any shape and in any form
 --   WholeNumbers   results as whole numbers
---   Negation   negated samples, results and whole numbers
+--   Negation       negated samples, results and whole numbers
 --   Carrying       results as whole numbers that add up
 --   DoublesOut     results as doubles
 --   Summaries      the lowest and the highest

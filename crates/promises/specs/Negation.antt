@@ -5,7 +5,7 @@
 --   whole-series-negated, whole-picture-negated     whole output in mode 0 of negated results answers the same, and where it is done leaves the negated cells
 --   series-negated, picture-negated   so negating all samples negates all outputs: behind a smoothing that is done, and that of the negated samples, both outputs are done, and the one leaves the negated cells of the other
 use Prim.Native.Nat.{ℕ}
-use mathlib.Core.Path.{_≡_, refl, sym, ap, ap₂, _∙_}
+use mathlib.Core.Path.{_≡_, sym, ap, ap₂, _∙_}
 use mathlib.Core.List.{List, _++_, map}
 use native.Mathlib.Omega.{arith}
 use lib.ListN.{length, length-map}

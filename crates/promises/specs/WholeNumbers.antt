@@ -12,7 +12,7 @@
 --   whole-series-21, whole-picture-21   it answers 21 exactly where the bounds hold and the mode is another
 --   whole-series-one, whole-picture-one   two outcomes that the contracts allow, of either form, are the same
 use Prim.Native.Nat.{ℕ, _≤_, _<_}
-use mathlib.Core.Path.{_≡_, refl, sym, ap, ap₂, _∙_}
+use mathlib.Core.Path.{_≡_, sym, ap, _∙_}
 use mathlib.Core.Logic.{_≢_}
 use mathlib.Core.List.{List}
 use lib.ListN.{length}

@@ -1,15 +1,14 @@
 -- The remainder of the language's own division by 2, which goes toward zero: it is 0 exactly of even numbers.
--- Laws: rem-even; half-fits (the quotient, which the machine asks about).
-use Prim.Native.Nat.{ℕ, zero, suc, _+_, _*_, _-_, _/_, _%_, _<_}
+-- Laws: rem-even; quotient-fits (of any divisor: the machine asks for the quotient of a remainder too).
+use Prim.Native.Nat.{ℕ, zero, suc, _+_, _-_, _/_, _%_, _≤_, _<_}
 use mathlib.Core.Path.{_≡_, refl}
-use native.Mathlib.Nat.{le-refl, div-add-mod', mod-lt}
+use native.Mathlib.Nat.{div-le-self, div-add-mod', mod-lt}
 use native.Mathlib.Omega.{arith}
 use lib.Dec.{eqb}
 use lib.IntN.{ℤ, pos, negsuc, negℤ}
 use lib.Signed.{quotZ, remZ}
 use mir.Syntax.{w64}
 use mir.Val.{SFits, ofZ}
-use Rattle.algebra.specs.Size.{natAbs-neg, fits-abs}
 use Rattle.meaning.specs.Extension.{emod}
 use Rattle.meaning.specs.Values.{even}
 
@@ -25,6 +24,10 @@ rem-even (negsuc a) = go (suc a % 2) (a % 2) (omega (arith, div-add-mod' a 2, di
     go zero n e = let i : n ≡ 1 = omega arith in rw i
     go (suc m) n e = let i : m ≡ 0 = omega arith in let j : n ≡ 0 = omega arith in rw (i, j)
 
-pub half-fits : (z : ℤ) → SFits w64 z → SFits w64 (quotZ z (pos 2))
-half-fits (pos a) h = record { sfits = omega (arith, h .sfits, div-add-mod' a 2) }
-half-fits (negsuc a) h = fits-abs {n = suc a / 2} (record { bound = rw (natAbs-neg (pos (suc a / 2))) (le-refl _) }) (omega (arith, h .sfits, div-add-mod' (suc a) 2))
+pub quotient-fits : (z : ℤ) (d : ℕ) → SFits w64 z → SFits w64 (quotZ z (pos d))
+quotient-fits (pos a) d h = record { sfits = omega (arith, h .sfits, div-le-self a d) }
+quotient-fits (negsuc a) d h = go (suc a / d) (div-le-self (suc a) d)
+  where
+    go : (n : ℕ) → n ≤ suc a → SFits w64 (negℤ (pos n))
+    go zero l = record { sfits = omega (arith, h .sfits) }
+    go (suc n) l = record { sfits = omega (arith, h .sfits) }

@@ -6,13 +6,10 @@ ghost use Rattle.plan.specs.Structs.{answerOf};
 use crate::UPWARD;
 use plan::Answer;
 
-// Row 21 comes after all others: what they have answered stands.
-pub(crate) fn tested(answer: Answer, mode: u64) -> Answer
-    ensures { λ r. ⌜ answerOf r ≡ R.ifDone (answerOf answer) (R.firstOf (meant.modeRows mode)) (answerOf answer) ⌝ }
+// Row 21.
+fn refusal(mode: u64) -> Answer
+    ensures { λ r. ⌜ answerOf r ≡ R.firstOf (meant.modeRows mode) ⌝ }
 {
-    if answer.number != 0 {
-        return answer;
-    }
     if mode > UPWARD {
         return Answer {
             number: 21,
@@ -22,5 +19,16 @@ pub(crate) fn tested(answer: Answer, mode: u64) -> Answer
     Answer {
         number: 0,
         position: 0,
+    }
+}
+
+// Row 21 comes after all others: what they have answered stands.
+pub(crate) fn tested(answer: Answer, mode: u64) -> Answer
+    ensures { λ r. ⌜ answerOf r ≡ R.ifDone (answerOf answer) (R.firstOf (meant.modeRows mode)) (answerOf answer) ⌝ }
+{
+    let number = answer.number;
+    match number {
+        0 => refusal(mode),
+        _ => answer,
     }
 }
