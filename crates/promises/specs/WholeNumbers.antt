@@ -10,7 +10,9 @@
 --   whole-size         and the cell has size at most the bound
 --   whole-series-allowed, whole-picture-allowed   it is done exactly where the bounds hold and the mode is 0 or 1
 --   whole-series-21, whole-picture-21   it answers 21 exactly where the bounds hold and the mode is another
---   whole-series-one, whole-picture-one   two outcomes that the contracts allow, of either form, are the same
+--   SameSeries v w, SamePicture v w   the two were given the same
+--   whole-series-by-one, whole-picture-by-one   then two outcomes that the contract of a call in a mode allows are the same;  whole-series-one, whole-picture-one  so are two of a call without
+--   whole-series-default, whole-picture-default   and one without a mode is that of mode 0
 use Prim.Native.Nat.{ℕ, _≤_, _<_}
 use mathlib.Core.Path.{_≡_, sym, ap, _∙_}
 use mathlib.Core.Logic.{_≢_}
@@ -214,16 +216,49 @@ whole-picture-21 w = (
 )
 
 -- ---- two calls
-series-same : {p q : Plan} {M L m n : ℕ} {r s x y : List ℤ} → p ≡ q → M ≡ L → m ≡ n → r ≡ s → x ≡ y → wholeSeriesBy (stagesOf p) M m r x ≡ wholeSeriesBy (stagesOf q) L n s y
-series-same p m k r x = rw (p, m, k, r, x)
+pub record SameSeries (v w : WholeSeries) : Type 0 where
+  pub plan : v .plan ≡ w .plan
+  pub bound : v .bound ≡ w .bound
+  pub mode : v .mode ≡ w .mode
+  pub results : v .results ≡ w .results
+  pub cells : v .cells ≡ w .cells
 
-pub whole-series-one : (v w : WholeSeries) → v .plan ≡ w .plan → v .bound ≡ w .bound → v .mode ≡ w .mode → v .results ≡ w .results → v .cells ≡ w .cells
-    → (v .answered ≡ w .answered) × (v .left ≡ w .left)
-whole-series-one v w p m k r x = output-same (series-same p m k r x) (v .gives) (w .gives)
+pub record SamePicture (v w : WholePicture) : Type 0 where
+  pub across : v .across ≡ w .across
+  pub down : v .down ≡ w .down
+  pub bound : v .bound ≡ w .bound
+  pub width : v .width ≡ w .width
+  pub height : v .height ≡ w .height
+  pub mode : v .mode ≡ w .mode
+  pub results : v .results ≡ w .results
+  pub cells : v .cells ≡ w .cells
 
-picture-same : {p q t u : Plan} {M L W X H Y m n : ℕ} {r s x y : List ℤ} → p ≡ q → t ≡ u → M ≡ L → W ≡ X → H ≡ Y → m ≡ n → r ≡ s → x ≡ y → wholePictureBy (stagesOf p) (stagesOf t) M W H m r x ≡ wholePictureBy (stagesOf q) (stagesOf u) L X Y n s y
-picture-same p t m w h k r x = rw (p, t, m, w, h, k, r, x)
+series-inputs : {p q : Plan} {M L m n : ℕ} {r s x y : List ℤ} → p ≡ q → M ≡ L → m ≡ n → r ≡ s → x ≡ y → wholeSeriesBy (stagesOf p) M m r x ≡ wholeSeriesBy (stagesOf q) L n s y
+series-inputs p m k r x = rw (p, m, k, r, x)
 
-pub whole-picture-one : (v w : WholePicture) → v .across ≡ w .across → v .down ≡ w .down → v .bound ≡ w .bound → v .width ≡ w .width → v .height ≡ w .height → v .mode ≡ w .mode
-    → v .results ≡ w .results → v .cells ≡ w .cells → (v .answered ≡ w .answered) × (v .left ≡ w .left)
-whole-picture-one v w p q m x y k r c = output-same (picture-same p q m x y k r c) (v .gives) (w .gives)
+picture-inputs : {p q t u : Plan} {M L W X H Y m n : ℕ} {r s x y : List ℤ} → p ≡ q → t ≡ u → M ≡ L → W ≡ X → H ≡ Y → m ≡ n → r ≡ s → x ≡ y → wholePictureBy (stagesOf p) (stagesOf t) M W H m r x ≡ wholePictureBy (stagesOf q) (stagesOf u) L X Y n s y
+picture-inputs p t m w h k r x = rw (p, t, m, w, h, k, r, x)
+
+series-same : {v w : WholeSeries} → SameSeries v w → (v .answered ≡ w .answered) × (v .left ≡ w .left)
+series-same {v} {w} h = output-same (series-inputs (h .plan) (h .bound) (h .mode) (h .results) (h .cells)) (v .gives) (w .gives)
+
+picture-same : {v w : WholePicture} → SamePicture v w → (v .answered ≡ w .answered) × (v .left ≡ w .left)
+picture-same {v} {w} h = output-same (picture-inputs (h .across) (h .down) (h .bound) (h .width) (h .height) (h .mode) (h .results) (h .cells)) (v .gives) (w .gives)
+
+pub whole-series-by-one : (c d : SeriesCall) → SameSeries (seriesIn c) (seriesIn d) → (c .answered ≡ d .answered) × (seriesIn c .left ≡ seriesIn d .left)
+whole-series-by-one c d h = series-same h
+
+pub whole-series-one : (c d : SeriesDefault) → SameSeries (seriesBy c) (seriesBy d) → (c .answered ≡ d .answered) × (seriesBy c .left ≡ seriesBy d .left)
+whole-series-one c d h = series-same h
+
+pub whole-series-default : (c : SeriesDefault) (d : SeriesCall) → SameSeries (seriesBy c) (seriesIn d) → (c .answered ≡ d .answered) × (seriesBy c .left ≡ seriesIn d .left)
+whole-series-default c d h = series-same h
+
+pub whole-picture-by-one : (c d : PictureCall) → SamePicture (pictureIn c) (pictureIn d) → (c .answered ≡ d .answered) × (pictureIn c .left ≡ pictureIn d .left)
+whole-picture-by-one c d h = picture-same h
+
+pub whole-picture-one : (c d : PictureDefault) → SamePicture (pictureBy c) (pictureBy d) → (c .answered ≡ d .answered) × (pictureBy c .left ≡ pictureBy d .left)
+whole-picture-one c d h = picture-same h
+
+pub whole-picture-default : (c : PictureDefault) (d : PictureCall) → SamePicture (pictureBy c) (pictureIn d) → (c .answered ≡ d .answered) × (pictureBy c .left ≡ pictureIn d .left)
+whole-picture-default c d h = picture-same h
