@@ -8,7 +8,7 @@
 --   doubles-series-allowed, doubles-picture-allowed   it is done exactly where the bounds hold
 --   doubles-series-one, doubles-picture-one   two outcomes that the contract allows are the same
 use Prim.Native.Nat.{ℕ, _<_}
-use mathlib.Core.Path.{_≡_, ap, _∙_}
+use mathlib.Core.Path.{_≡_, refl, ap, _∙_}
 use mathlib.Core.Bool.{false}
 use mathlib.Core.List.{[]}
 use native.Mathlib.Nat.{le-trans}
@@ -105,8 +105,8 @@ doubles-picture-allowed c = alone (output-picture _ _ _ [] none-own (stagesOf (a
 -- ---- two calls
 pub doubles-series-one : (c d : SeriesCall) → plan c ≡ plan d → ofSeries c .bound ≡ ofSeries d .bound → ofSeries c .results ≡ ofSeries d .results → ofSeries c .cells ≡ ofSeries d .cells
     → (c .answered ≡ d .answered) × (ofSeries c .left ≡ ofSeries d .left)
-doubles-series-one c d p m r x = output-same (series-inputs [] ratio p m r x) (c .learnt) (d .learnt)
+doubles-series-one c d p m r x = output-same (series-inputs refl refl p m r x) (c .learnt) (d .learnt)
 
 pub doubles-picture-one : (c d : PictureCall) → across c ≡ across d → down c ≡ down d → ofPicture c .bound ≡ ofPicture d .bound → width c ≡ width d → height c ≡ height d
     → ofPicture c .results ≡ ofPicture d .results → ofPicture c .cells ≡ ofPicture d .cells → (c .answered ≡ d .answered) × (ofPicture c .left ≡ ofPicture d .left)
-doubles-picture-one c d p q m w h r x = output-same (picture-inputs [] ratio p q m w h r x) (c .learnt) (d .learnt)
+doubles-picture-one c d p q m w h r x = output-same (picture-inputs refl refl p q m w h r x) (c .learnt) (d .learnt)

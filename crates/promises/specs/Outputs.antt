@@ -160,13 +160,13 @@ pub picture-smoothed : {p q t u : Plan} {M L W X H Y n nr nw : ℕ} {r f : List 
 picture-smoothed {q} {u} {X} {Y} {f} p t m w h r n ok = rw (p, t, m, w, h, r) (tested.picture-smoothed-out fold fold (stagesOf q) (stagesOf u) ok (n ∙ ap length r ∙ length-picture fold fold (stagesOf q) (stagesOf u) X Y f))
 
 -- ---- two calls
-module _ {A : Type 0} (own : List Row) (g : ℤ → ℕ → A) where
-  pub series-inputs : {p q : Plan} {M L : ℕ} {r s : List ℤ} {x y : List A} → p ≡ q → M ≡ L → r ≡ s → x ≡ y → converted own g (seriesOf (stagesOf p) (length r)) M r x ≡ converted own g (seriesOf (stagesOf q) (length s)) L s y
-  series-inputs p m r x = rw (p, m, r, x)
+module _ {A : Type 0} {own more : List Row} {f g : ℤ → ℕ → A} (o : own ≡ more) (e : f ≡ g) where
+  pub series-inputs : {p q : Plan} {M L : ℕ} {r s : List ℤ} {x y : List A} → p ≡ q → M ≡ L → r ≡ s → x ≡ y → converted own f (seriesOf (stagesOf p) (length r)) M r x ≡ converted more g (seriesOf (stagesOf q) (length s)) L s y
+  series-inputs p m r x = rw (o, e, p, m, r, x)
 
   pub picture-inputs : {p q t u : Plan} {M L W X H Y : ℕ} {r s : List ℤ} {x y : List A} → p ≡ q → t ≡ u → M ≡ L → W ≡ X → H ≡ Y → r ≡ s → x ≡ y
-      → converted own g (pictureOf (stagesOf p) (stagesOf t) W H) M r x ≡ converted own g (pictureOf (stagesOf q) (stagesOf u) X Y) L s y
-  picture-inputs p t m w h r x = rw (p, t, m, w, h, r, x)
+      → converted own f (pictureOf (stagesOf p) (stagesOf t) W H) M r x ≡ converted more g (pictureOf (stagesOf q) (stagesOf u) X Y) L s y
+  picture-inputs p t m w h r x = rw (o, e, p, t, m, w, h, r, x)
 
 pub output-same : {A : Type 0} {o p : Converted A} → o ≡ p → {a b : answered.Answer} {l m : List A} → Gives o (answerOf a) l → Gives p (answerOf b) m → (a ≡ b) × (l ≡ m)
 output-same {A} e g h = (

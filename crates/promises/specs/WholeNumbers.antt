@@ -47,7 +47,7 @@ use Rattle.whole.proofs.whole_series.Kinds as series-default-kinds
 use Rattle.whole.proofs.whole_picture.Reads as picture-default
 use Rattle.whole.proofs.whole_picture.Kinds as picture-default-kinds
 use Rattle.promises.specs.Smoothings.{Exactly}
-use Rattle.promises.specs.Outputs.{Output, each, output-cell, output-small, output-series, output-picture, convertedSeries, convertedPicture, output-same}
+use Rattle.promises.specs.Outputs.{Output, each, output-cell, output-small, output-series, output-picture, convertedSeries, convertedPicture, series-inputs, picture-inputs, output-same}
 
 -- ---- calls
 pub record SeriesCall : Type 1 where
@@ -233,17 +233,11 @@ pub record SamePicture (v w : WholePicture) : Type 0 where
   pub results : v .results ≡ w .results
   pub cells : v .cells ≡ w .cells
 
-series-inputs : {p q : Plan} {M L m n : ℕ} {r s x y : List ℤ} → p ≡ q → M ≡ L → m ≡ n → r ≡ s → x ≡ y → wholeSeriesBy (stagesOf p) M m r x ≡ wholeSeriesBy (stagesOf q) L n s y
-series-inputs p m k r x = rw (p, m, k, r, x)
-
-picture-inputs : {p q t u : Plan} {M L W X H Y m n : ℕ} {r s x y : List ℤ} → p ≡ q → t ≡ u → M ≡ L → W ≡ X → H ≡ Y → m ≡ n → r ≡ s → x ≡ y → wholePictureBy (stagesOf p) (stagesOf t) M W H m r x ≡ wholePictureBy (stagesOf q) (stagesOf u) L X Y n s y
-picture-inputs p t m w h k r x = rw (p, t, m, w, h, k, r, x)
-
 series-same : {v w : WholeSeries} → SameSeries v w → (v .answered ≡ w .answered) × (v .left ≡ w .left)
-series-same {v} {w} h = output-same (series-inputs (h .plan) (h .bound) (h .mode) (h .results) (h .cells)) (v .gives) (w .gives)
+series-same {v} {w} h = output-same (series-inputs (ap modeRows (h .mode)) (ap rounded (h .mode)) (h .plan) (h .bound) (h .results) (h .cells)) (v .gives) (w .gives)
 
 picture-same : {v w : WholePicture} → SamePicture v w → (v .answered ≡ w .answered) × (v .left ≡ w .left)
-picture-same {v} {w} h = output-same (picture-inputs (h .across) (h .down) (h .bound) (h .width) (h .height) (h .mode) (h .results) (h .cells)) (v .gives) (w .gives)
+picture-same {v} {w} h = output-same (picture-inputs (ap modeRows (h .mode)) (ap rounded (h .mode)) (h .across) (h .down) (h .bound) (h .width) (h .height) (h .results) (h .cells)) (v .gives) (w .gives)
 
 pub whole-series-by-one : (c d : SeriesCall) → SameSeries (seriesIn c) (seriesIn d) → (c .answered ≡ d .answered) × (seriesIn c .left ≡ seriesIn d .left)
 whole-series-by-one c d h = series-same h
