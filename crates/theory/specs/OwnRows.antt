@@ -47,7 +47,6 @@ unfolding modeRows
 mode-other mode l = first-on _ [] (lt-ltb maxMode mode l)
 
 -- ---- the rows of both parts
-
 module _ (s : Shape) (M : ℕ) (r : List ℤ) (n : ℕ) (own : List Row) where
   abbrev first : List Row
   first = outputRows s M r n

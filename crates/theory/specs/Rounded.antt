@@ -6,6 +6,7 @@
 -- even-half (of two as near, the even one), even-negated (of the negative, the negative).
 use Prim.Native.Nat.{ℕ, zero, suc, _+_, _*_, _-_, _≤_, _<_}
 use mathlib.Core.Path.{_≡_, refl, sym, ap, _∙_}
+use mathlib.Core.Logic.{_⊎_, inl, inr, ⊎-elim}
 use mathlib.Core.Bool.{Bool, true, false, cond, not, _||_, Bool·not-not}
 use native.Mathlib.Decide.{decLt}
 use native.Mathlib.Omega.{arith}
@@ -130,48 +131,54 @@ module _ (d : ℕ) (h : 0 < d) (z : ℤ) where
   pub rounded-size : (mode M : ℕ) → natAbs z ≤ M * d → natAbs (rounded mode z d) ≤ M
   rounded-size mode M l = rounded-of (λ x. natAbs x ≤ M) mode z d (nearest-size d h z M l) (rw (natAbs-neg (nearest (negℤ z) d)) (nearest-size d h (negℤ z) M (rw (natAbs-neg z) l)))
 
-  -- where upward and downward are one, no other is as near
-  one-nearest : {x : ℤ} → nearest z d ≡ x → downward z d ≡ x → (k : ℤ) → off k ≡ off x → k ≡ x
-  one-nearest {x} up down k e =
-      let low : k ≤ℤ x = rw up at (nearest-half d h z k (rw up e)) in
-      let high : negℤ k ≤ℤ nearest (negℤ z) d = nearest-half d h (negℤ z) (negℤ k) (off-negated k ∙ e ∙ ap off (sym down) ∙ sym off-downward) in
-      ≤ℤ-antisym low (omega (zarith, of-neg k, of-neg (nearest (negℤ z) d)))
+  -- upward and downward are one, or at a half neighbours
+  sides : (nearest z d ≡ downward z d) ⊎ (nearest z d ≡ downward z d +ℤ pos 1)
+  sides = go (decLt (2 * emod z d) d) (decLt d (2 * emod z d))
+    where
+      v : Divided z d (floor z d) (emod z d)
+      v = emod-divided z h
+
+      go : Dec (2 * emod z d < d) → Dec (d < 2 * emod z d) → (nearest z d ≡ downward z d) ⊎ (nearest z d ≡ downward z d +ℤ pos 1)
+      go (yes l) m = inl (nearest-below v l ∙ sym (down-below v (omega arith)))
+      go (no l) (yes m) = inl (nearest-above v (omega arith) ∙ sym (down-above v m))
+      go (no l) (no m) = inr (nearest-above v (omega arith) ∙ ap (λ q. q +ℤ pos 1) (sym (down-below v (omega arith))))
+
+  -- ---- where they are one
+  one-even : nearest z d ≡ downward z d → nearestEven z d ≡ nearest z d
+  unfolding nearestEven
+  one-even e = ap (cond (even (nearest z d)) (nearest z d)) (sym e) ∙ cond-same (even (nearest z d)) (nearest z d)
+
+  one-nearest : nearest z d ≡ downward z d → (k : ℤ) → off k ≡ off (nearest z d) → k ≡ nearest z d
+  one-nearest e k i =
+      let high : negℤ k ≤ℤ nearest (negℤ z) d = nearest-half d h (negℤ z) (negℤ k) (off-negated k ∙ i ∙ ap off e ∙ sym off-downward) in
+      ≤ℤ-antisym (nearest-half d h z k i) (omega (zarith, e, of-neg k, of-neg (nearest (negℤ z) d)))
+
+  one-negated : nearest z d ≡ downward z d → nearestEven (negℤ z) d ≡ negℤ (nearestEven z d)
+  unfolding nearestEven
+  one-negated e = rw (negℤ-negℤ z, e, negℤ-negℤ (nearest (negℤ z) d)) (cond-same (even (nearest (negℤ z) d)) _ ∙ sym (ap negℤ (cond-same (even (downward z d)) (downward z d)) ∙ negℤ-negℤ (nearest (negℤ z) d)))
+
+  -- ---- where they are neighbours
+  two-even : nearest z d ≡ downward z d +ℤ pos 1 → even (nearest z d) ≡ not (even (downward z d))
+  two-even e = ap even e ∙ even-next (downward z d)
+
+  two-chosen : nearest z d ≡ downward z d +ℤ pos 1 → even (nearestEven z d) ≡ true
+  unfolding nearestEven
+  two-chosen e = go (even (nearest z d)) refl (two-even e)
+    where
+      go : (b : Bool) → even (nearest z d) ≡ b → even (nearest z d) ≡ not (even (downward z d)) → even (cond b (nearest z d) (downward z d)) ≡ true
+      go true i j = i
+      go false i j = sym (Bool·not-not (even (downward z d))) ∙ ap not (sym j ∙ i)
+
+  two-negated : nearest z d ≡ downward z d +ℤ pos 1 → nearestEven (negℤ z) d ≡ negℤ (nearestEven z d)
+  unfolding nearestEven
+  two-negated e = rw (negℤ-negℤ z, two-even e, even-neg (nearest (negℤ z) d)) (go (even (nearest (negℤ z) d)))
+    where
+      go : (b : Bool) → cond b (nearest (negℤ z) d) (negℤ (nearest z d)) ≡ negℤ (cond (not b) (nearest z d) (downward z d))
+      go true = sym (negℤ-negℤ (nearest (negℤ z) d))
+      go false = refl
 
   pub even-half : (k : ℤ) → off k ≡ off (nearestEven z d) → (k ≡ nearestEven z d → ⊥) → even (nearestEven z d) ≡ true
-  even-half k e n = go (decLt (2 * emod z d) d) (decLt d (2 * emod z d))
-    where
-      v : Divided z d (floor z d) (emod z d)
-      v = emod-divided z h
-
-      tied : (b : Bool) → even (floor z d) ≡ b → even (cond b (floor z d) (floor z d +ℤ pos 1)) ≡ true
-      tied true i = i
-      tied false i = even-next (floor z d) ∙ rw i
-
-      go : Dec (2 * emod z d < d) → Dec (d < 2 * emod z d) → even (nearestEven z d) ≡ true
-      go (yes l) m = let i = even-below v l in absurd (n (one-nearest (nearest-below v l ∙ sym i) (down-below v (omega arith) ∙ sym i) k e))
-      go (no l) (yes m) = let i = even-above v m in absurd (n (one-nearest (nearest-above v (omega arith) ∙ sym i) (down-above v m ∙ sym i) k e))
-      go (no l) (no m) = rw (even-tie v (omega arith)) (tied (even (floor z d)) refl)
-
-  -- Of the negative, upward is the negative of downward. The two are one, or one of them is even.
-  negated-one : nearest z d ≡ downward z d → nearestEven (negℤ z) d ≡ negℤ (nearestEven z d)
-  unfolding nearestEven
-  negated-one e = rw (negℤ-negℤ z, e, negℤ-negℤ (nearest (negℤ z) d)) (cond-same (even (nearest (negℤ z) d)) _ ∙ sym (ap negℤ (cond-same (even (downward z d)) (downward z d)) ∙ negℤ-negℤ (nearest (negℤ z) d)))
-
-  negated-two : even (nearest (negℤ z) d) ≡ not (even (nearest z d)) → nearestEven (negℤ z) d ≡ negℤ (nearestEven z d)
-  unfolding nearestEven
-  negated-two e = rw (e, negℤ-negℤ z) (go (even (nearest z d)))
-    where
-      go : (b : Bool) → cond (not b) (nearest (negℤ z) d) (negℤ (nearest z d)) ≡ negℤ (cond b (nearest z d) (downward z d))
-      go true = refl
-      go false = sym (negℤ-negℤ (nearest (negℤ z) d))
+  even-half k i n = ⊎-elim (λ e. absurd (n (one-nearest e k (i ∙ ap off (one-even e)) ∙ sym (one-even e)))) two-chosen sides
 
   pub even-negated : nearestEven (negℤ z) d ≡ negℤ (nearestEven z d)
-  even-negated = go (decLt (2 * emod z d) d) (decLt d (2 * emod z d))
-    where
-      v : Divided z d (floor z d) (emod z d)
-      v = emod-divided z h
-
-      go : Dec (2 * emod z d < d) → Dec (d < 2 * emod z d) → nearestEven (negℤ z) d ≡ negℤ (nearestEven z d)
-      go (yes l) m = negated-one (nearest-below v l ∙ sym (down-below v (omega arith)))
-      go (no l) (yes m) = negated-one (nearest-above v (omega arith) ∙ sym (down-above v m))
-      go (no l) (no m) = negated-two (sym (even-neg (nearest (negℤ z) d)) ∙ ap even (down-below v (omega arith)) ∙ sym (rw (nearest-above v (omega arith), even-next (floor z d)) (Bool·not-not (even (floor z d)))))
+  even-negated = ⊎-elim one-negated two-negated sides
