@@ -1,12 +1,12 @@
 -- Whole numbers out: `whole::whole_series_by` and `whole::whole_picture_by`, and the forms without a mode, `whole::whole_series` and `whole::whole_picture`, by their own contracts, for all inputs.
 --   SeriesCall, PictureCall         any call in a mode, as its contract lets it end;  SeriesDefault, PictureDefault  any call without one
 --   WholeSeries, WholePicture       what a call of either form was given, answered and left; its contract is `gives`
---   seriesIn c, pictureIn c         that of a call in a mode;  seriesBy c, pictureBy c  of one without, whose mode is 0
+--   seriesInMode c, pictureInMode c   that of a call in a mode;  seriesByDefault c, pictureByDefault c  of one without, whose mode is 0
 --   ofSeries w, ofPicture w         the same as an Output: what Outputs says holds of both. Its own row is 21
 --   whole-nearest      where it is done, no whole number is nearer to the quotient than the cell, in either mode: times the divisor, its distance from the result is the least
 --   whole-even         in mode 0, where another is as near, the cell is twice a whole number
 --   whole-half         in mode 1, of two that are as near, the cell is the upper one
---   whole-upward       in mode 1 the cell is that of the rule before there were modes
+--   whole-upward       in mode 1 the cell is that of document 01, `nearest`
 --   whole-size         and the cell has size at most the bound
 --   whole-series-allowed, whole-picture-allowed   it is done exactly where the bounds hold and the mode is 0 or 1
 --   whole-series-21, whole-picture-21   it answers 21 exactly where the bounds hold and the mode is another
@@ -102,8 +102,8 @@ pub record WholePicture : Type 0 where
   pub left : List ℤ
   pub gives : Gives (wholePictureBy (stagesOf across) (stagesOf down) bound width height mode results cells) (answerOf answered) left
 
-abbrev pub seriesIn : SeriesCall → WholeSeries
-seriesIn c = record {
+abbrev pub seriesInMode : SeriesCall → WholeSeries
+seriesInMode c = record {
   plan = c .given .0;
   bound = c .given .1 .0;
   mode = c .given .1 .1 .0;
@@ -114,8 +114,8 @@ seriesIn c = record {
   gives = c .learnt;
 }
 
-abbrev pub seriesBy : SeriesDefault → WholeSeries
-seriesBy c = record {
+abbrev pub seriesByDefault : SeriesDefault → WholeSeries
+seriesByDefault c = record {
   plan = c .given .0;
   bound = c .given .1 .0;
   mode = 0;
@@ -126,8 +126,8 @@ seriesBy c = record {
   gives = c .learnt;
 }
 
-abbrev pub pictureIn : PictureCall → WholePicture
-pictureIn c = record {
+abbrev pub pictureInMode : PictureCall → WholePicture
+pictureInMode c = record {
   across = c .given .0;
   down = c .given .1 .0;
   bound = c .given .1 .1 .0;
@@ -141,8 +141,8 @@ pictureIn c = record {
   gives = c .learnt;
 }
 
-abbrev pub pictureBy : PictureDefault → WholePicture
-pictureBy c = record {
+abbrev pub pictureByDefault : PictureDefault → WholePicture
+pictureByDefault c = record {
   across = c .given .0;
   down = c .given .1 .0;
   bound = c .given .1 .1 .0;
@@ -239,20 +239,20 @@ series-same {v} {w} h = output-same (series-inputs (ap modeRows (h .mode)) (ap r
 picture-same : {v w : WholePicture} → SamePicture v w → (v .answered ≡ w .answered) × (v .left ≡ w .left)
 picture-same {v} {w} h = output-same (picture-inputs (ap modeRows (h .mode)) (ap rounded (h .mode)) (h .across) (h .down) (h .bound) (h .width) (h .height) (h .results) (h .cells)) (v .gives) (w .gives)
 
-pub whole-series-by-one : (c d : SeriesCall) → SameSeries (seriesIn c) (seriesIn d) → (c .answered ≡ d .answered) × (seriesIn c .left ≡ seriesIn d .left)
+pub whole-series-by-one : (c d : SeriesCall) → SameSeries (seriesInMode c) (seriesInMode d) → (c .answered ≡ d .answered) × (seriesInMode c .left ≡ seriesInMode d .left)
 whole-series-by-one c d h = series-same h
 
-pub whole-series-one : (c d : SeriesDefault) → SameSeries (seriesBy c) (seriesBy d) → (c .answered ≡ d .answered) × (seriesBy c .left ≡ seriesBy d .left)
+pub whole-series-one : (c d : SeriesDefault) → SameSeries (seriesByDefault c) (seriesByDefault d) → (c .answered ≡ d .answered) × (seriesByDefault c .left ≡ seriesByDefault d .left)
 whole-series-one c d h = series-same h
 
-pub whole-series-default : (c : SeriesDefault) (d : SeriesCall) → SameSeries (seriesBy c) (seriesIn d) → (c .answered ≡ d .answered) × (seriesBy c .left ≡ seriesIn d .left)
+pub whole-series-default : (c : SeriesDefault) (d : SeriesCall) → SameSeries (seriesByDefault c) (seriesInMode d) → (c .answered ≡ d .answered) × (seriesByDefault c .left ≡ seriesInMode d .left)
 whole-series-default c d h = series-same h
 
-pub whole-picture-by-one : (c d : PictureCall) → SamePicture (pictureIn c) (pictureIn d) → (c .answered ≡ d .answered) × (pictureIn c .left ≡ pictureIn d .left)
+pub whole-picture-by-one : (c d : PictureCall) → SamePicture (pictureInMode c) (pictureInMode d) → (c .answered ≡ d .answered) × (pictureInMode c .left ≡ pictureInMode d .left)
 whole-picture-by-one c d h = picture-same h
 
-pub whole-picture-one : (c d : PictureDefault) → SamePicture (pictureBy c) (pictureBy d) → (c .answered ≡ d .answered) × (pictureBy c .left ≡ pictureBy d .left)
+pub whole-picture-one : (c d : PictureDefault) → SamePicture (pictureByDefault c) (pictureByDefault d) → (c .answered ≡ d .answered) × (pictureByDefault c .left ≡ pictureByDefault d .left)
 whole-picture-one c d h = picture-same h
 
-pub whole-picture-default : (c : PictureDefault) (d : PictureCall) → SamePicture (pictureBy c) (pictureIn d) → (c .answered ≡ d .answered) × (pictureBy c .left ≡ pictureIn d .left)
+pub whole-picture-default : (c : PictureDefault) (d : PictureCall) → SamePicture (pictureByDefault c) (pictureInMode d) → (c .answered ≡ d .answered) × (pictureByDefault c .left ≡ pictureInMode d .left)
 whole-picture-default c d h = picture-same h

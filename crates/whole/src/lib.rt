@@ -8,7 +8,7 @@ use plan::Plan;
 mod converting;
 mod mode;
 
-// The modes: a half goes to the even neighbour, or upward, as in columns that were stored before there were modes.
+// The modes: a half goes to the even neighbour, or upward, for columns that are stored so.
 pub const EVEN: u64 = 0;
 
 pub const UPWARD: u64 = 1;
