@@ -1,4 +1,4 @@
--- The bounds of document 01.
+-- The bounds of document 01, and of document 02 that of a mode.
 --   least                            radius and edge weight go from 0, every other number of its table from this
 --   maxPasses, maxRadius, maxInner   of a plan; the edge weight goes to one less than the inner weight
 --   maxBound                         of the sample bound M
