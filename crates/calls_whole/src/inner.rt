@@ -13,7 +13,7 @@ pub fn one_call(open: &mut bool, number: u64, results: &mut [i64], cells: &mut [
     }
 }
 
-// The mode of calls 7 and 10; the others have none.
+// The mode of calls 7 and 10. The others have none, and do not use the 0.
 fn mode_of(open: &mut bool, number: u64) -> u64 {
     match number {
         7 | 10 => input::word(open),
@@ -32,7 +32,7 @@ fn series(open: &mut bool, number: u64, results: &mut [i64], cells: &mut [i32]) 
         match number {
             7 => rounded_of_series(plan, bound, mode, &results[..n], &mut cells[..count]),
             15 => carried_of_series(plan, bound, &results[..n], &mut cells[..count]),
-            _ => evened_of_series(plan, bound, &results[..n], &mut cells[..count]),
+            _ => default_of_series(plan, bound, &results[..n], &mut cells[..count]),
         }
     }
 }
@@ -43,7 +43,7 @@ fn rounded_of_series(plan: Plan, bound: u64, mode: u64, results: &[i64], cells: 
     output::end_line();
 }
 
-fn evened_of_series(plan: Plan, bound: u64, results: &[i64], cells: &mut [i32]) {
+fn default_of_series(plan: Plan, bound: u64, results: &[i64], cells: &mut [i32]) {
     output::answer(whole::whole_series(plan, bound, results, cells));
     output::samples(cells);
     output::end_line();
@@ -65,7 +65,7 @@ fn picture(open: &mut bool, number: u64, results: &mut [i64], cells: &mut [i32])
         match number {
             10 => rounded_of_picture(picture, mode, &results[..n], &mut cells[..count]),
             16 => carried_of_picture(picture, &results[..n], &mut cells[..count]),
-            _ => evened_of_picture(picture, &results[..n], &mut cells[..count]),
+            _ => default_of_picture(picture, &results[..n], &mut cells[..count]),
         }
     }
 }
@@ -85,7 +85,7 @@ fn rounded_of_picture(picture: Raster, mode: u64, results: &[i64], cells: &mut [
     output::end_line();
 }
 
-fn evened_of_picture(picture: Raster, results: &[i64], cells: &mut [i32]) {
+fn default_of_picture(picture: Raster, results: &[i64], cells: &mut [i32]) {
     output::answer(whole::whole_picture(
         picture.across,
         picture.down,

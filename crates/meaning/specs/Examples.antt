@@ -38,6 +38,8 @@ data Example : Type 0 where
   whole : ℕ → List Stage → List ℤ → List ℤ → Example
   -- plan, samples; whole output without a mode
   wholeDefault : List Stage → List ℤ → List ℤ → Example
+  -- mode, plans across and down, width, height, results; whole output
+  wholeRaster : ℕ → List Stage → List Stage → ℕ → ℕ → List ℤ → List ℤ → Example
   -- plans across and down, width, height, results; whole output without a mode
   rasterDefault : List Stage → List Stage → ℕ → ℕ → List ℤ → List ℤ → Example
   -- plan, results; last carry, cells
@@ -56,6 +58,8 @@ data Example : Type 0 where
   unpointed : List Stage → List ℤ → ℕ → ℕ → ℕ → ℕ → Example
   -- plan, results; lowest and its index, highest and its index
   summed : List Stage → List ℤ → Float → ℕ → Float → ℕ → Example
+  -- mode, plan, results; number, position
+  unwhole : ℕ → List Stage → List ℤ → ℕ → ℕ → Example
   -- mode, plans across and down, width, height, results; number, position
   refused : ℕ → List Stage → List Stage → ℕ → ℕ → List ℤ → ℕ → ℕ → Example
   -- sigma in hundredths, passes, inner weight; number
@@ -83,6 +87,7 @@ Holds (edit ss f p v r n) = editSeries fold ss 9 p v f (results fold ss f) (f ++
 Holds (planner s K b r a) = planFor s K b ≡ record { answer = done; radius = r; edge = a }
 Holds (whole m ss f c) = wholeSeriesBy ss 9 m (results fold ss f) f ≡ record { answer = done; cells = c }
 Holds (wholeDefault ss f c) = wholeSeries ss 9 (results fold ss f) f ≡ record { answer = done; cells = c }
+Holds (wholeRaster m hs vs W H r c) = wholePictureBy hs vs 9 W H m r r ≡ record { answer = done; cells = c }
 Holds (rasterDefault hs vs W H r c) = wholePicture hs vs 9 W H r r ≡ record { answer = done; cells = c }
 Holds (carries ss r k c) = carrySeries ss 9 r r ≡ record { answer = done; carry = k; cells = c }
 Holds (carriesRaster hs vs W H f k c) = carryPicture hs vs 9 W H (picture fold fold hs vs W H f) f ≡ record { answer = done; carry = k; cells = c }
@@ -92,6 +97,7 @@ Holds (unsmoothed ss f n p k) = smoothSeries fold ss 9 f f f ≡ record { answer
 Holds (unedited ss f i v n p k) = editSeries fold ss 9 i v f f (f ++ f) ≡ record { answer = answer n p k; count = 0; samples = f; results = f; work = f ++ f }
 Holds (unpointed ss f i n p k) = point fold ss 9 i f (f ++ f) ≡ record { answer = answer n p k; value = plusZero; work = f ++ f }
 Holds (summed ss r l i h j) = summarySeries ss 9 r ≡ record { answer = done; lowest = l; highest = h; lowestAt = i; highestAt = j }
+Holds (unwhole m ss r n p) = wholeSeriesBy ss 1 m r r ≡ record { answer = answer n p 0; cells = r }
 Holds (refused m hs vs W H r n p) = wholePictureBy hs vs 1 W H m r r ≡ record { answer = answer n p 0; cells = r }
 Holds (unplanned s K b n) = planFor s K b ≡ record { answer = answer n 0 0; radius = 0; edge = 0 }
 Holds (divided ss d) = planDivisor ss ≡ d
@@ -156,6 +162,10 @@ examples =
     ∷ refused 2 (plan 1 1 0 1) (plan 1 2 1 1) 2 1 (pos 24 ∷ negsuc 23 ∷ []) 21 0
     ∷ whole 0 (plan 1 2 1 1) (minus (4 ∷ 0 ∷ 0 ∷ [])) (minus (2 ∷ 2 ∷ 0 ∷ []))
     ∷ wholeDefault (plan 1 2 1 1) (plus (4 ∷ 0 ∷ 0 ∷ [])) (plus (2 ∷ 2 ∷ 0 ∷ []))
+    ∷ wholeRaster 1 (plan 1 2 1 1) (plan 0 3 1 1) 4 1 (pos 20 ∷ pos 60 ∷ negsuc 19 ∷ negsuc 59 ∷ []) (pos 1 ∷ pos 2 ∷ pos 0 ∷ negsuc 0 ∷ [])
+    ∷ unwhole 2 (plan 1 2 1 1) (plus (4 ∷ 9 ∷ [])) 12 1
+    ∷ unwhole 2 (plan 1 2 1 1) (plus (4 ∷ 8 ∷ [])) 21 0
+    ∷ unwhole 4294967296 (plan 1 2 1 1) (plus (4 ∷ 8 ∷ [])) 21 0
     ∷ rasterDefault (plan 1 2 1 1) (plan 0 3 1 1) 4 1 (pos 20 ∷ pos 60 ∷ negsuc 19 ∷ negsuc 59 ∷ []) (pos 0 ∷ pos 2 ∷ pos 0 ∷ negsuc 1 ∷ [])
     ∷ carries (plan 1 2 1 1) (results fold (plan 1 2 1 1) (plus (4 ∷ 0 ∷ 0 ∷ []))) 0 (plus (2 ∷ 1 ∷ 1 ∷ []))
     ∷ carries (plan 1 2 1 1) (results fold (plan 1 2 1 1) (minus (4 ∷ 0 ∷ 0 ∷ []))) 0 (minus (2 ∷ 2 ∷ 0 ∷ []))
@@ -187,4 +197,4 @@ unfolding examples sumWithin emod reflect fold ext tap passAt kernel width reach
 examples-hold =
     refl and refl and refl and refl and refl and refl and refl
     and refl and refl and refl and refl and refl
-    and refl and refl and refl and refl and refl and refl and refl and refl and refl and refl and refl and refl and refl and refl and refl and refl and refl and refl and refl and refl and refl and refl and refl and refl and refl and refl and refl and refl and refl and refl and refl and refl and refl and refl and refl and refl and refl and refl and refl and refl and refl and refl and refl and refl and none
+    and refl and refl and refl and refl and refl and refl and refl and refl and refl and refl and refl and refl and refl and refl and refl and refl and refl and refl and refl and refl and refl and refl and refl and refl and refl and refl and refl and refl and refl and refl and refl and refl and refl and refl and refl and refl and refl and refl and refl and refl and refl and refl and refl and refl and refl and refl and refl and refl and none

@@ -3,7 +3,7 @@
 --   nearest z d   z over d to the nearest whole number, a half upward
 --   even z        z is twice a whole number
 --   nearestEven z d   z over d to the nearest whole number, a half to the even neighbour
---   rounded mode  nearestEven in mode 0, nearest in every other; only 1 is not refused
+--   rounded mode  nearestEven in mode 0, nearest in every other, of which only 1 is accepted
 --   ratio z d     z over d as a double
 --   plusZero      the double 0, with the plus sign
 --   takes M x     the double x is a sample under bound M
@@ -11,7 +11,7 @@
 --   doublesIn     of bound, doubles, samples; its rows are doubleRows
 --   outputRows    rows 1 to 8 and 12 of an output: of shape, bound, results and the cells' length
 --   converted own g   each result over the divisor, by g: of shape, bound, results, cells; its rows are outputRows and then its own
---   modeRows mode the row of whole output's own, 21
+--   modeRows mode whole output's own row, 21
 --   unbeaten beats r      the first index of a result that none beats
 --   lowestIn, highestIn   the first index of the lowest and of the highest of results; 0 of none
 --   summary       of shape, bound, results: a Summary

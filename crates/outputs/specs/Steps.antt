@@ -1,7 +1,7 @@
 -- The steps of an output, each over plain lists, of any shape.
 --   Passed s d r n   what an answer of 0 leaves, d being the divisor that code has
 -- Laws: test-refused, test-rest (the rows in two parts, as code tests them), series-lengths; series-limit, picture-limit (what row 12 compares with); series-passed, picture-passed;
--- own-refused, own-done, call-refused, call-done (the two ends of a call that leaves cells, with rows of its own and without).
+-- cells-refused, cells-done, call-refused, call-done (the two ends of a call that leaves cells, with rows of its own and without).
 use Prim.Native.Nat.{ℕ, _*_, _≤_}
 use mathlib.Core.Path.{_≡_, refl, sym, _∙_, ap₂}
 use mathlib.Core.Bool.{Bool, false, _||_}
@@ -93,20 +93,20 @@ picture-passed p q M W H r n e z f g =
 
 -- ---- the two ends of a call whose test answered a: with rows of its own behind those of every output, and with none
 module _ {A : Type 0} (own : List Row) (g : ℤ → ℕ → A) (s : Shape) (M : ℕ) (r : List ℤ) (cells : List A) {a : Answer} (e : a ≡ firstOf (outputRows s M r (length cells) ++ own)) where
-  pub own-refused : (a .number ≡ 0 → ⊥) → Gives (converted own g s M r cells) a cells
+  pub cells-refused : (a .number ≡ 0 → ⊥) → Gives (converted own g s M r cells) a cells
   unfolding converted
-  own-refused h = rw (← e) (record { answer = refl; cells = sym (ifDone-refused a _ cells h) })
+  cells-refused h = rw (← e) (record { answer = refl; cells = sym (ifDone-refused a _ cells h) })
 
-  pub own-done : a .number ≡ 0 → {d : ℕ} → d ≡ s .divisor → {left : List A} → left ≡ map (λ z. g z d) r → Gives (converted own g s M r cells) a left
+  pub cells-done : a .number ≡ 0 → {d : ℕ} → d ≡ s .divisor → {left : List A} → left ≡ map (λ z. g z d) r → Gives (converted own g s M r cells) a left
   unfolding converted
-  own-done z k l = rw (← e) (record { answer = refl; cells = l ∙ rw k (sym (ifDone-done a _ cells z)) })
+  cells-done z k l = rw (← e) (record { answer = refl; cells = l ∙ rw k (sym (ifDone-done a _ cells z)) })
 
 module _ {A : Type 0} (g : ℤ → ℕ → A) (s : Shape) (M : ℕ) (r : List ℤ) (cells : List A) {a : Answer} (e : a ≡ firstOf (outputRows s M r (length cells))) where
   alone : a ≡ firstOf (outputRows s M r (length cells) ++ [])
   alone = first-alone (outputRows s M r (length cells)) e
 
   pub call-refused : (a .number ≡ 0 → ⊥) → Gives (converted [] g s M r cells) a cells
-  call-refused = own-refused [] g s M r cells alone
+  call-refused = cells-refused [] g s M r cells alone
 
   pub call-done : a .number ≡ 0 → {d : ℕ} → d ≡ s .divisor → {left : List A} → left ≡ map (λ z. g z d) r → Gives (converted [] g s M r cells) a left
-  call-done = own-done [] g s M r cells alone
+  call-done = cells-done [] g s M r cells alone

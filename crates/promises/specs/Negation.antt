@@ -1,9 +1,10 @@
 -- Negating a column: smoothing and whole output in mode 0, in either form, by their own contracts.
 --   NegatedSeries c d, NegatedPicture c d   the smoothing d was given what c was, but the negated samples; of the cells to be written, as many
---   EvenOfSeries c v, EvenOfPicture c v     the call v puts the results that c left out in mode 0, under its plans and bound, with as many cells
+--   EvenOfSeries c v, EvenOfPicture c v     v is whole output in mode 0 of the results that the smoothing c left, under its plans and bound, with as many cells
 --   smooth-series-negated, smooth-picture-negated   then d answers what c does, and where that is done leaves the negated results
 --   whole-series-negated, whole-picture-negated     whole output in mode 0 of negated results answers the same, and where it is done leaves the negated cells
---   series-negated, picture-negated   so negating all samples negates all outputs: behind a smoothing that is done, and that of the negated samples, both outputs are done, and the one leaves the negated cells of the other
+--   samples-negated-series, samples-negated-picture   so negating all samples negates all outputs: where the smoothing is done, both whole outputs are, and the one leaves the negated cells of the other
+--   samples-negated-series-default, samples-negated-picture-default   the same of the forms without a mode
 use Prim.Native.Nat.{ℕ}
 use mathlib.Core.Path.{_≡_, sym, ap, ap₂, _∙_}
 use mathlib.Core.List.{List, _++_, map}
@@ -16,14 +17,13 @@ use Rattle.meaning.specs.Picture.{picture}
 use Rattle.meaning.specs.Refusals.{Answer, Row, firstOf, Shape, seriesOf, pictureOf}
 use Rattle.meaning.specs.Calls.{smoothRows}
 use Rattle.meaning.specs.Values.{nearestEven, rounded, outputRows, modeRows}
-use Rattle.theory.specs.Negated as law
-use Rattle.theory.specs.Negated.{results-negated, even-negated-each, smooth-negated, output-negated}
+use Rattle.theory.specs.Negated.{results-negated, picture-negated, nearestEven-negated-each, smooth-negated, output-negated}
 use Rattle.plan.specs.declared.Plan.{Plan}
 use Rattle.plan.specs.Structs.{stagesOf, asAnswer, asChecked}
 use Rattle.plan.specs.declared.Checked.{Checked}
 use Rattle.promises.specs.Smoothings.{answers}
 use Rattle.promises.specs.Outputs.{Output, each, output-whole, series-smoothed, picture-smoothed}
-use Rattle.promises.specs.WholeNumbers.{WholeSeries, WholePicture, ofSeries, ofPicture, whole-series-allowed, whole-picture-allowed}
+use Rattle.promises.specs.WholeNumbers.{SeriesDefault, PictureDefault, WholeSeries, WholePicture, seriesByDefault, pictureByDefault, ofSeries, ofPicture, whole-series-allowed, whole-picture-allowed}
 use Rattle.promises.specs.SmoothSeries as series
 use Rattle.promises.specs.Pictures as pictures
 
@@ -38,7 +38,7 @@ module _ {m n : ℕ} (i : m ≡ 0) (j : n ≡ 0) (o : Output (each (rounded m)))
   outputs-negated : p .shape ≡ o .shape → p .bound ≡ o .bound → p .results ≡ map negℤ (o .results) → length (p .cells) ≡ length (o .cells) → p .own ≡ o .own → (p .answer ≡ o .answer) × (o .answer .number ≡ 0 → p .left ≡ map negℤ (o .left))
   outputs-negated s b r k w =
       let a = p .answers ∙ rows-same (o .results) s b r k w ∙ sym (o .answers) in
-      (a, λ e. cells-same j p (ap (λ (x : Answer). x .number) a ∙ e) ∙ ap₂ (λ (t : Shape) (f : List ℤ). map (λ z. nearestEven z (t .divisor)) f) s r ∙ even-negated-each _ (o .divides e) (o .results) ∙ ap (map negℤ) (sym (cells-same i o e)))
+      (a, λ e. cells-same j p (ap (λ (x : Answer). x .number) a ∙ e) ∙ ap₂ (λ (t : Shape) (f : List ℤ). map (λ z. nearestEven z (t .divisor)) f) s r ∙ nearestEven-negated-each _ (o .divides e) (o .results) ∙ ap (map negℤ) (sym (cells-same i o e)))
 
 series-shape : (r : List ℤ) {s : List ℤ} {p q : Plan} → p ≡ q → s ≡ map negℤ r → seriesOf (stagesOf p) (length s) ≡ seriesOf (stagesOf q) (length r)
 series-shape r p s = rw (p, s, length-map r negℤ)
@@ -80,7 +80,7 @@ smooth-series-negated {c} {d} h =
 
 picture-results : (f : List ℤ) {g : List ℤ} {p q t u : Plan} {W X H Y : ℕ} → p ≡ q → t ≡ u → W ≡ X → H ≡ Y → g ≡ map negℤ f
     → picture fold fold (stagesOf p) (stagesOf t) W H g ≡ map negℤ (picture fold fold (stagesOf q) (stagesOf u) X Y f)
-picture-results f {q} {u} {X} {Y} p t w h g = rw (p, t, w, h, g) (law.picture-negated fold fold (stagesOf q) (stagesOf u) X Y f)
+picture-results f {q} {u} {X} {Y} p t w h g = rw (p, t, w, h, g) (picture-negated fold fold (stagesOf q) (stagesOf u) X Y f)
 
 pub record NegatedPicture (c d : pictures.PictureCall) : Type 0 where
   pub across : pictures.across d ≡ pictures.across c
@@ -109,13 +109,17 @@ pub record EvenOfSeries (c : series.SeriesCall) (v : WholeSeries) : Type 0 where
 even-series-done : {c : series.SeriesCall} {v : WholeSeries} → EvenOfSeries c v → series.number c ≡ 0 → v .answered .number ≡ 0
 even-series-done {c} {v} h e = whole-series-allowed v .1 (series-smoothed (h .plan) (h .bound) (h .results ∙ series.done-whole c e) (h .cells) (series.done-allowed c .0 e), rw (h .mode) (omega arith))
 
-pub series-negated : {c d : series.SeriesCall} → NegatedSeries c d → series.number c ≡ 0 → {v w : WholeSeries} → EvenOfSeries c v → EvenOfSeries d w → (v .answered .number ≡ 0) × (w .answered .number ≡ 0) × (w .left ≡ map negℤ (v .left))
-series-negated {c} {d} h e {v} {w} i j =
+pub samples-negated-series : {c d : series.SeriesCall} → NegatedSeries c d → series.number c ≡ 0 → {v w : WholeSeries} → EvenOfSeries c v → EvenOfSeries d w → (v .answered .number ≡ 0) × (w .answered .number ≡ 0) × (w .left ≡ map negℤ (v .left))
+samples-negated-series {c} {d} h e {v} {w} i j =
     let (a, r) = smooth-series-negated h in
     let vd = even-series-done i e in
     let wd = even-series-done j (ap (λ (x : Checked). x .number) a ∙ e) in
     let is : w .results ≡ map negℤ (v .results) = j .results ∙ r e ∙ ap (map negℤ) (sym (i .results)) in
     (vd, wd, whole-series-negated v w (i .mode) (j .mode) (j .plan ∙ h .plan ∙ sym (i .plan)) (j .bound ∙ h .bound ∙ sym (i .bound)) is (j .cells ∙ ap length is ∙ length-map (v .results) negℤ ∙ sym (i .cells)) .1 vd)
+
+pub samples-negated-series-default : {c d : series.SeriesCall} → NegatedSeries c d → series.number c ≡ 0 → (v w : SeriesDefault) → EvenOfSeries c (seriesByDefault v) → EvenOfSeries d (seriesByDefault w)
+    → (v .answered .number ≡ 0) × (w .answered .number ≡ 0) × (seriesByDefault w .left ≡ map negℤ (seriesByDefault v .left))
+samples-negated-series-default h e v w i j = samples-negated-series h e i j
 
 pub record EvenOfPicture (c : pictures.PictureCall) (v : WholePicture) : Type 0 where
   pub across : v .across ≡ pictures.across c
@@ -130,10 +134,14 @@ pub record EvenOfPicture (c : pictures.PictureCall) (v : WholePicture) : Type 0 
 even-picture-done : {c : pictures.PictureCall} {v : WholePicture} → EvenOfPicture c v → pictures.number c ≡ 0 → v .answered .number ≡ 0
 even-picture-done {c} {v} h e = whole-picture-allowed v .1 (picture-smoothed (h .across) (h .down) (h .bound) (h .width) (h .height) (h .results ∙ pictures.picture-whole c e) (h .cells) (pictures.picture-allowed c .0 e), rw (h .mode) (omega arith))
 
-pub picture-negated : {c d : pictures.PictureCall} → NegatedPicture c d → pictures.number c ≡ 0 → {v w : WholePicture} → EvenOfPicture c v → EvenOfPicture d w → (v .answered .number ≡ 0) × (w .answered .number ≡ 0) × (w .left ≡ map negℤ (v .left))
-picture-negated {c} {d} h e {v} {w} i j =
+pub samples-negated-picture : {c d : pictures.PictureCall} → NegatedPicture c d → pictures.number c ≡ 0 → {v w : WholePicture} → EvenOfPicture c v → EvenOfPicture d w → (v .answered .number ≡ 0) × (w .answered .number ≡ 0) × (w .left ≡ map negℤ (v .left))
+samples-negated-picture {c} {d} h e {v} {w} i j =
     let (a, r) = smooth-picture-negated h in
     let vd = even-picture-done i e in
     let wd = even-picture-done j (ap (λ (x : Checked). x .number) a ∙ e) in
     let is : w .results ≡ map negℤ (v .results) = j .results ∙ r e ∙ ap (map negℤ) (sym (i .results)) in
     (vd, wd, whole-picture-negated v w (i .mode) (j .mode) (j .across ∙ h .across ∙ sym (i .across)) (j .down ∙ h .down ∙ sym (i .down)) (j .bound ∙ h .bound ∙ sym (i .bound)) (j .width ∙ h .width ∙ sym (i .width)) (j .height ∙ h .height ∙ sym (i .height)) is (j .cells ∙ ap length is ∙ length-map (v .results) negℤ ∙ sym (i .cells)) .1 vd)
+
+pub samples-negated-picture-default : {c d : pictures.PictureCall} → NegatedPicture c d → pictures.number c ≡ 0 → (v w : PictureDefault) → EvenOfPicture c (pictureByDefault v) → EvenOfPicture d (pictureByDefault w)
+    → (v .answered .number ≡ 0) × (w .answered .number ≡ 0) × (pictureByDefault w .left ≡ map negℤ (pictureByDefault v .left))
+samples-negated-picture-default h e v w i j = samples-negated-picture h e i j

@@ -3,7 +3,7 @@
 --   spike, start         the samples (0, 0, 9, 0, 0) and (9, 0, 0, 0, 0);  spread  what one pass makes of spike, (0, 9, 9, 9, 0)
 --   GivenSeries K f c    the smoothing c was given planned K, bound 9, the samples f, and five cells each of results and work
 --   GivenEdit v c        the edit c was given planned 1, bound 9, the samples spike, the results spread, ten cells of work, and to set sample 4 to v
---   edged                the plan (0, 3, 1, 1);  Small s  the shape s is a series of 3, or a picture of 3 columns and 1 row, under edged;  page  document 01's job
+--   edged                the plan (0, 3, 1, 1);  Small s  the shape s is a series of 3, or a picture of 3 columns and 1 row, under edged;  OwnOff own  the rows `own` are none, or row 21 in mode 0 or 1;  page  document 01's job
 -- One refusing everything:
 --   not-refused, edit-not-refused   smoothing spike is done, and so is setting sample 4 to 3
 --   picture-not-refused, point-not-refused, doubles-in-not-refused, output-not-refused, summary-not-refused, planner-not-refused, read-not-refused, write-not-refused   so is each other call, on an input of its own
@@ -33,13 +33,12 @@ use Rattle.meaning.specs.Kernel.{tap, passAt, kernel, width, reach, tapSum, div
 use Rattle.meaning.specs.Smoothing as smoothing
 use Rattle.meaning.specs.Smoothing.{listOf, convolved, weight, near}
 use Rattle.meaning.specs.Refusals as meant
-use Rattle.meaning.specs.Refusals.{firstOf, Applies, firstWhere, countWhere, rowAt, some, planRows, sizeRows, Shape, seriesOf, pictureOf, ifDone}
+use Rattle.meaning.specs.Refusals.{Row, firstOf, firstWhere, countWhere, rowAt, some, planRows, sizeRows, Shape, seriesOf, pictureOf, ifDone}
 use Rattle.meaning.specs.Calls.{smoothRows, gained, editRows, changed, Edited, editSeries, pointRows, point}
-use Rattle.meaning.specs.Values.{takes, doubleRows, doublesIn, outputRows, Summary, summary}
+use Rattle.meaning.specs.Values.{takes, doubleRows, doublesIn, outputRows, modeRows, Summary, summary}
 use Rattle.meaning.specs.Bounds.{AllowedSigma}
 use Rattle.meaning.specs.Encoding.{bytes, number}
 use Rattle.meaning.specs.Record.{Job, field, sampleBytes, recordOf, begins, reading, readRecord, recordSize}
-use Rattle.theory.specs.Refusals.{none-done}
 use Rattle.theory.specs.OwnRows.{own-rest}
 use Rattle.plan.specs.declared.Plan.{Plan}
 use Rattle.plan.specs.declared.Point.{Point}
@@ -203,8 +202,18 @@ unfolding outputRows firstOf firstWhere rowAt some planRows sizeRows tapSum divi
 output-number (inl s) m r n = rw (s, m, r, n) refl
 output-number (inr s) m r n = rw (s, m, r, n) refl
 
-pub output-not-refused : {A : Type 0} {made : ℕ → List ℤ → List A} (o : Output made) → Small (o .shape) → o .bound ≡ 9 → o .results ≡ pos 16 ∷ pos 12 ∷ pos 4 ∷ [] → length (o .cells) ≡ 3 → ((k : ℕ) → Applies k (o .own) → ⊥) → o .answer .number ≡ 0
-output-not-refused o s m r n k = ap (λ (a : meant.Answer). a .number) (o .answers ∙ own-rest _ _ _ _ _ (output-number s m r n)) ∙ none-done (o .own) k
+-- none, or row 21 in mode 0 or 1
+abbrev pub OwnOff : List Row → Type 0
+OwnOff own = (own ≡ []) ⊎ ((own ≡ modeRows 0) ⊎ (own ≡ modeRows 1))
+
+own-number : {own : List Row} → OwnOff own → firstOf own .number ≡ 0
+unfolding firstOf modeRows
+own-number (inl e) = rw e refl
+own-number (inr (inl e)) = rw e refl
+own-number (inr (inr e)) = rw e refl
+
+pub output-not-refused : {A : Type 0} {made : ℕ → List ℤ → List A} (o : Output made) → Small (o .shape) → o .bound ≡ 9 → o .results ≡ pos 16 ∷ pos 12 ∷ pos 4 ∷ [] → length (o .cells) ≡ 3 → OwnOff (o .own) → o .answer .number ≡ 0
+output-not-refused o s m r n k = ap (λ (a : meant.Answer). a .number) (o .answers ∙ own-rest _ _ _ _ _ (output-number s m r n)) ∙ own-number k
 
 pub summary-not-refused : (o : Summing) → Small (o .shape) → o .bound ≡ 9 → o .results ≡ pos 16 ∷ pos 12 ∷ pos 4 ∷ [] → o .answered .answer .number ≡ 0
 unfolding summary

@@ -6,7 +6,7 @@
 --   whole-nearest      where it is done, no whole number is nearer to the quotient than the cell, in either mode: times the divisor, its distance from the result is the least
 --   whole-even         in mode 0, where another is as near, the cell is twice a whole number
 --   whole-half         in mode 1, of two that are as near, the cell is the upper one
---   whole-upward       in mode 1 the cell is that of document 01, `nearest`
+--   whole-series-old, whole-picture-old   in mode 1 answer and cells are those of document 01: the rows of every output and no other, and each cell `nearest`
 --   whole-size         and the cell has size at most the bound
 --   whole-series-allowed, whole-picture-allowed   it is done exactly where the bounds hold and the mode is 0 or 1
 --   whole-series-21, whole-picture-21   it answers 21 exactly where the bounds hold and the mode is another
@@ -14,9 +14,9 @@
 --   whole-series-by-one, whole-picture-by-one   then two outcomes that the contract of a call in a mode allows are the same;  whole-series-one, whole-picture-one  so are two of a call without
 --   whole-series-default, whole-picture-default   and one without a mode is that of mode 0
 use Prim.Native.Nat.{ℕ, _≤_, _<_}
-use mathlib.Core.Path.{_≡_, sym, ap, _∙_}
+use mathlib.Core.Path.{_≡_, refl, sym, ap, _∙_, subst}
 use mathlib.Core.Logic.{_≢_}
-use mathlib.Core.List.{List}
+use mathlib.Core.List.{List, []}
 use lib.ListN.{length}
 use lib.IntN.{ℤ, pos, natAbs, _-ℤ_, _*ℤ_}
 use lib.Signed.{_≤ℤ_}
@@ -27,10 +27,11 @@ use borrow.Fn.Kinds.{Dens, resT, endedOf}
 use Rattle.meaning.specs.Limits.{maxMode}
 use Rattle.meaning.specs.Extension.{at}
 use Rattle.meaning.specs.Refusals as meant
-use Rattle.meaning.specs.Values.{nearest, nearestEven, rounded, modeRows, wholeSeriesBy, wholePictureBy}
+use Rattle.meaning.specs.Refusals.{firstOf, planRows, sizeRows, Shape, seriesOf, pictureOf}
+use Rattle.meaning.specs.Values.{nearest, nearestEven, rounded, Converted, outputRows, converted, modeRows, wholeSeriesBy, wholePictureBy}
 use Rattle.meaning.specs.Bounds.{AllowedSeriesOut, AllowedPictureOut}
 use Rattle.theory.specs.Nearest.{nearest-half}
-use Rattle.theory.specs.Rounded.{rounded-nearest, rounded-size, even-half, even-twice}
+use Rattle.theory.specs.Rounded.{rounded-nearest, rounded-size, nearestEven-half, even-twice}
 use Rattle.theory.specs.OwnRows.{mode-own, mode-off, off-mode, mode-refused, refused-mode}
 use Rattle.theory.specs.Refusals.{Off}
 use Rattle.theory.specs.AcceptedOutputs.{series-out-allowed, allowed-series-out, picture-out-allowed, allowed-picture-out}
@@ -182,13 +183,13 @@ module _ (mode : ℕ) (o : Output (each (rounded mode))) (e : o .answer .number 
   pub whole-even : mode ≡ 0 → (k : ℤ) → natAbs (result -ℤ D *ℤ k) ≡ natAbs (result -ℤ D *ℤ cell) → k ≢ cell → (h : ℤ) × (cell ≡ pos 2 *ℤ h)
   whole-even m k h n =
       let is : cell ≡ nearestEven result (o .shape .divisor) = cell-is ∙ ap (λ n. rounded n result (o .shape .divisor)) m in
-      rw is (even-twice _ (even-half _ (o .divides e) result k (rw is at h) (λ i. n (i ∙ sym is))))
+      rw is (even-twice _ (nearestEven-half _ (o .divides e) result k (rw is at h) (λ i. n (i ∙ sym is))))
 
-  pub whole-upward : mode ≡ 1 → cell ≡ nearest result (o .shape .divisor)
-  whole-upward m = cell-is ∙ ap (λ n. rounded n result (o .shape .divisor)) m
+  upward : mode ≡ 1 → cell ≡ nearest result (o .shape .divisor)
+  upward m = cell-is ∙ ap (λ n. rounded n result (o .shape .divisor)) m
 
   pub whole-half : mode ≡ 1 → (k : ℤ) → natAbs (result -ℤ D *ℤ k) ≡ natAbs (result -ℤ D *ℤ cell) → k ≤ℤ cell
-  whole-half m k h = let is = whole-upward m in rw is (nearest-half _ (o .divides e) result k (rw is at h))
+  whole-half m k h = let is = upward m in rw is (nearest-half _ (o .divides e) result k (rw is at h))
 
   pub whole-size : natAbs cell ≤ o .bound
   whole-size = rw cell-is (rounded-size _ (o .divides e) result mode (o .bound) (output-small o e .1 i l))
@@ -214,6 +215,18 @@ whole-picture-21 w = (
   λ e. let (z, l) = mode-refused _ _ _ _ (w .mode) (ofPicture w .answers) e in (picture-out-allowed _ _ _ _ _ _ _ z, l),
   λ ok. refused-mode _ _ _ _ (w .mode) (ofPicture w .answers) (ap (λ (x : meant.Answer). x .number) (allowed-picture-out _ _ _ _ _ _ _ (ok .0))) (ok .1),
 )
+
+-- ---- mode 1
+-- row 21 is off
+old-outcome : (s : Shape) (M : ℕ) (r cells : List ℤ) {m : ℕ} → m ≡ 1 → converted (modeRows m) (rounded m) s M r cells ≡ converted [] nearest s M r cells
+unfolding converted modeRows firstOf outputRows planRows sizeRows
+old-outcome s M r cells e = rw e refl
+
+pub whole-series-old : (w : WholeSeries) → w .mode ≡ 1 → Gives (converted [] nearest (seriesOf (stagesOf (w .plan)) (length (w .results))) (w .bound) (w .results) (w .cells)) (answerOf (w .answered)) (w .left)
+whole-series-old w m = subst (λ (o : Converted ℤ). Gives o (answerOf (w .answered)) (w .left)) (old-outcome (seriesOf (stagesOf (w .plan)) (length (w .results))) (w .bound) (w .results) (w .cells) m) (w .gives)
+
+pub whole-picture-old : (w : WholePicture) → w .mode ≡ 1 → Gives (converted [] nearest (pictureOf (stagesOf (w .across)) (stagesOf (w .down)) (w .width) (w .height)) (w .bound) (w .results) (w .cells)) (answerOf (w .answered)) (w .left)
+whole-picture-old w m = subst (λ (o : Converted ℤ). Gives o (answerOf (w .answered)) (w .left)) (old-outcome (pictureOf (stagesOf (w .across)) (stagesOf (w .down)) (w .width) (w .height)) (w .bound) (w .results) (w .cells) m) (w .gives)
 
 -- ---- two calls
 pub record SameSeries (v w : WholeSeries) : Type 0 where

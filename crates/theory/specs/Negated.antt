@@ -1,10 +1,10 @@
 -- Negated samples and results: what smoothing and the outputs make of them.
--- Laws: at-negated; results-negated, picture-negated (the results of negated samples); even-negated-each (a half to the even neighbour, of negated results); smooth-negated, output-negated (their rows are those of the samples and results themselves).
+-- Laws: results-negated, picture-negated (the results of negated samples); nearestEven-negated-each (a half to the even neighbour, of negated results); smooth-negated, output-negated (their rows are those of the samples and results themselves).
 use Prim.Native.Nat.{ℕ, zero, suc, _+_, _*_, _<_}
 use mathlib.Core.Path.{_≡_, refl, sym, ap, ap₂, _∙_}
 use mathlib.Core.List.{List, [], _∷_, map}
 use lib.Dec.{ltb}
-use lib.ListN.{length, length-map}
+use lib.ListN.{length, length-map, List·getD-map}
 use lib.IntN.{ℤ, pos, negsuc, negℤ, natAbs, _*ℤ_}
 use Rattle.algebra.specs.Ring.{*ℤ-idl, negℤ-*ℤ}
 use Rattle.algebra.specs.Size.{natAbs-neg}
@@ -19,12 +19,10 @@ use Rattle.theory.specs.Lists.{listOf-ext, listOf-map}
 use Rattle.theory.specs.Convolution.{convolved-ext, convolved-*}
 use Rattle.theory.specs.Picture.{grid-ext, grid-map}
 use Rattle.theory.specs.Places.{rowAt-ext}
-use Rattle.theory.specs.Rounded.{even-negated}
+use Rattle.theory.specs.Rounded.{nearestEven-negated}
 
-pub at-negated : (f : List ℤ) (i : ℕ) → at (map negℤ f) i ≡ negℤ (at f i)
-at-negated [] i = refl
-at-negated (x ∷ f) zero = refl
-at-negated (x ∷ f) (suc i) = at-negated f i
+at-negated : (f : List ℤ) (i : ℕ) → at (map negℤ f) i ≡ negℤ (at f i)
+at-negated f i = List·getD-map negℤ f i (pos 0)
 
 above-negated : (M : ℕ) (f : List ℤ) (i : ℕ) → above M (at (map negℤ f) i) ≡ above M (at f i)
 above-negated M f i = ap (ltb M) (ap natAbs (at-negated f i) ∙ natAbs-neg (at f i))
@@ -52,9 +50,9 @@ picture-negated φ ψ hs vs W H f =
     ∙ grid-map negℤ W H _
 
 -- ---- whole output
-pub even-negated-each : (d : ℕ) → 0 < d → (r : List ℤ) → map (λ z. nearestEven z d) (map negℤ r) ≡ map negℤ (map (λ z. nearestEven z d) r)
-even-negated-each d h [] = refl
-even-negated-each d h (z ∷ r) = ap₂ _∷_ (even-negated d h z) (even-negated-each d h r)
+pub nearestEven-negated-each : (d : ℕ) → 0 < d → (r : List ℤ) → map (λ z. nearestEven z d) (map negℤ r) ≡ map negℤ (map (λ z. nearestEven z d) r)
+nearestEven-negated-each d h [] = refl
+nearestEven-negated-each d h (z ∷ r) = ap₂ _∷_ (nearestEven-negated d h z) (nearestEven-negated-each d h r)
 
 -- ---- rows
 pub smooth-negated : (s : Shape) (M : ℕ) (f : List ℤ) (nr nw : ℕ) → smoothRows s M (map negℤ f) nr nw ≡ smoothRows s M f nr nw

@@ -1,6 +1,8 @@
 -- The rows of an output with rows of the call's own behind them.
---   Behind own   their numbers rise from above 12, and none has a position
--- Laws: none-own, mode-own (no rows, and row 21, are such); mode-known, mode-other (what row 21 answers), mode-off, off-mode (it does not apply exactly to modes that are allowed); own-rising, own-numbered; own-position (at 12), own-no-position (else); own-answers (a number above 12 is of its own rows), own-done, own-rest (where the first part answers 0); mode-refused, refused-mode (21 exactly where the first part answers 0 and the mode is another).
+--   Behind own   their numbers rise from above 12 and stay below `most`, and none has a position or a bad sample
+-- Laws: none-own, mode-own (no rows, and row 21, are such); mode-off, off-mode (row 21 is off exactly for modes up to the largest), mode-known, mode-other (what it answers);
+-- own-rising, own-numbered; own-position (at 12), own-no-position (else); own-done (at 0 the first part answers 0, and no row of its own applies), own-rest (where the first part answers 0, its own rows answer);
+-- mode-refused, refused-mode (21 exactly where the first part answers 0 and the mode is another).
 use Prim.Native.Nat.{ℕ, _*_, _≤_, _<_}
 use mathlib.Core.Path.{_≡_, refl, sym, ap, _∙_}
 use mathlib.Core.Logic.{⊎-elim}
@@ -74,7 +76,7 @@ module _ (s : Shape) (M : ℕ) (r : List ℤ) (n : ℕ) (own : List Row) where
           (first-either first own (output-numbered s M r n) e)
 
       -- a number that none of the first part has
-      pub own-answers : 12 < x .number → (firstOf first .number ≡ 0) × (x ≡ firstOf own)
+      own-answers : 12 < x .number → (firstOf first .number ≡ 0) × (x ≡ firstOf own)
       own-answers l = ⊎-elim
           (λ f. let no : ⊥ = omega (arith, output-below s M r n f (λ h. omega arith)) in absurd no)
           (λ p. (ap (λ (a : Answer). a .number) (off-done first (p .0)), p .1))

@@ -124,10 +124,11 @@ rising-numbered m (row ∷ rows) t =
     let (l, u) = split-lt m (row .answer .number) (risesFrom (row .answer .number) rows) t in
     rw (lt-ltb 0 (row .answer .number) (omega arith)) (rising-numbered (row .answer .number) rows u)
 
--- ---- rows with position 0
+-- ---- no second part
 pub first-alone : (rows : List Row) {a : Answer} → a ≡ firstOf rows → a ≡ firstOf (rows ++ [])
 first-alone rows e = e ∙ ap firstOf (sym (append-nil rows))
 
+-- ---- rows with position 0
 pub first-parts : (m : ℕ) (rows more : List Row) → Unplaced m rows → {a : Answer} → a ≡ firstOf (rows ++ more) → Below m a ⊎ (Off rows × (a ≡ firstOf more))
 unfolding firstOf
 first-parts m [] more t e = inr (tt, e)

@@ -1,10 +1,10 @@
 -- A quotient rounded by a mode: a half to the even neighbour in mode 0, else upward.
 --   downward z d     z over d to the nearest whole number, a half downward
 --   goesUp mode q    the half above q goes up
--- Laws: even-next (of two neighbours one is even), even-neg, even-twice (an even number is twice a whole one);
+-- Laws: even-twice (an even number is twice a whole one);
 -- rounded-below, rounded-above (by quotient and rest: the one below, or the one above), rounded-nearest (no whole number is nearer), rounded-size;
--- even-half (of two as near, the even one), even-negated (of the negative, the negative).
-use Prim.Native.Nat.{ℕ, zero, suc, _+_, _*_, _-_, _≤_, _<_}
+-- nearestEven-half (of two as near, the even one), nearestEven-negated (of the negative, the negative).
+use Prim.Native.Nat.{ℕ, zero, suc, _+_, _*_, _≤_, _<_}
 use mathlib.Core.Path.{_≡_, refl, sym, ap, _∙_}
 use mathlib.Core.Logic.{_⊎_, inl, inr, ⊎-elim}
 use mathlib.Core.Bool.{Bool, true, false, cond, not, _||_, Bool·not-not}
@@ -24,7 +24,7 @@ use Rattle.theory.specs.Remainder.{emod-divided, emod-is}
 use Rattle.theory.specs.Nearest.{nearest-below, nearest-above, nearest-size, nearest-nearest, nearest-half}
 
 -- ---- even and odd
-pub even-next : (q : ℤ) → even (q +ℤ pos 1) ≡ not (even q)
+even-next : (q : ℤ) → even (q +ℤ pos 1) ≡ not (even q)
 unfolding even
 even-next q = go (emod q 2) (emod-divided q (omega arith))
   where
@@ -33,7 +33,7 @@ even-next q = go (emod q 2) (emod-divided q (omega arith))
     go (suc zero) d = rw (emod-is (divided-turn d refl))
     go (suc (suc r)) d = absurd (omega (arith, d .below))
 
-pub even-neg : (q : ℤ) → even (negℤ q) ≡ even q
+even-neg : (q : ℤ) → even (negℤ q) ≡ even q
 unfolding even
 even-neg q = go (emod q 2) (emod-divided q (omega arith))
   where
@@ -68,17 +68,17 @@ cond-not true x y = refl
 cond-not false x y = refl
 
 module _ {z : ℤ} {d : ℕ} {q : ℤ} {r : ℕ} (h : Divided z d q r) where
-  even-below : 2 * r < d → nearestEven z d ≡ q
+  nearestEven-below : 2 * r < d → nearestEven z d ≡ q
   unfolding nearestEven
-  even-below l = rw (nearest-below h l, down-below h (omega arith)) (cond-same (even q) q)
+  nearestEven-below l = rw (nearest-below h l, down-below h (omega arith)) (cond-same (even q) q)
 
-  even-above : d < 2 * r → nearestEven z d ≡ q +ℤ pos 1
+  nearestEven-above : d < 2 * r → nearestEven z d ≡ q +ℤ pos 1
   unfolding nearestEven
-  even-above l = rw (nearest-above h (omega arith), down-above h l) (cond-same (even (q +ℤ pos 1)) (q +ℤ pos 1))
+  nearestEven-above l = rw (nearest-above h (omega arith), down-above h l) (cond-same (even (q +ℤ pos 1)) (q +ℤ pos 1))
 
-  even-tie : 2 * r ≡ d → nearestEven z d ≡ cond (even q) q (q +ℤ pos 1)
+  nearestEven-tie : 2 * r ≡ d → nearestEven z d ≡ cond (even q) q (q +ℤ pos 1)
   unfolding nearestEven
-  even-tie l = rw (nearest-above h (omega arith), down-below h (omega arith), even-next q) (cond-not (even q) (q +ℤ pos 1) q)
+  nearestEven-tie l = rw (nearest-above h (omega arith), down-below h (omega arith), even-next q) (cond-not (even q) (q +ℤ pos 1) q)
 
 -- ---- by a mode
 abbrev pub goesUp : ℕ → ℤ → Bool
@@ -90,8 +90,8 @@ module _ {z : ℤ} {d : ℕ} {q : ℤ} {r : ℕ} (h : Divided z d q r) (mode : �
     where
       go : (m e : Bool) → even q ≡ e → 2 * r + cond (not m || not e) 1 0 ≤ d → Dec (2 * r < d) → cond m (nearestEven z d) (nearest z d) ≡ q
       go false e i l k = nearest-below h (omega arith)
-      go true e i l (yes k) = even-below h k
-      go true true i l (no k) = even-tie h (omega arith) ∙ rw i
+      go true e i l (yes k) = nearestEven-below h k
+      go true true i l (no k) = nearestEven-tie h (omega arith) ∙ rw i
       go true false i l (no k) = absurd (omega arith)
 
   pub rounded-above : d < 2 * r + cond (goesUp mode q) 1 0 → rounded mode z d ≡ q +ℤ pos 1
@@ -99,12 +99,12 @@ module _ {z : ℤ} {d : ℕ} {q : ℤ} {r : ℕ} (h : Divided z d q r) (mode : �
     where
       go : (m e : Bool) → even q ≡ e → d < 2 * r + cond (not m || not e) 1 0 → Dec (d < 2 * r) → cond m (nearestEven z d) (nearest z d) ≡ q +ℤ pos 1
       go false e i l k = nearest-above h (omega arith)
-      go true e i l (yes k) = even-above h k
-      go true false i l (no k) = even-tie h (omega arith) ∙ rw i
+      go true e i l (yes k) = nearestEven-above h k
+      go true false i l (no k) = nearestEven-tie h (omega arith) ∙ rw i
       go true true i l (no k) = absurd (omega arith)
 
 -- ---- how near it is
--- what holds upward and downward holds
+-- what holds of upward and of downward holds of rounded
 rounded-of : (P : ℤ → Type 0) (mode : ℕ) (z : ℤ) (d : ℕ) → P (nearest z d) → P (downward z d) → P (rounded mode z d)
 unfolding nearestEven
 rounded-of P mode z d up down = go (eqb mode 0) (even (nearest z d))
@@ -115,18 +115,18 @@ rounded-of P mode z d up down = go (eqb mode 0) (even (nearest z d))
     go true false = down
 
 module _ (d : ℕ) (h : 0 < d) (z : ℤ) where
-  abbrev off : ℤ → ℕ
-  off k = natAbs (z -ℤ pos d *ℤ k)
+  abbrev far : ℤ → ℕ
+  far k = natAbs (z -ℤ pos d *ℤ k)
 
   -- the same of the negatives
-  off-negated : (k : ℤ) → natAbs (negℤ z -ℤ pos d *ℤ negℤ k) ≡ off k
-  off-negated k = ap natAbs (ap (λ x. negℤ z -ℤ x) (*ℤ-negℤ (pos d) k) ∙ sym (negℤ-+ℤ z (negℤ (pos d *ℤ k)))) ∙ natAbs-neg (z -ℤ pos d *ℤ k)
+  far-negated : (k : ℤ) → natAbs (negℤ z -ℤ pos d *ℤ negℤ k) ≡ far k
+  far-negated k = ap natAbs (ap (λ x. negℤ z -ℤ x) (*ℤ-negℤ (pos d) k) ∙ sym (negℤ-+ℤ z (negℤ (pos d *ℤ k)))) ∙ natAbs-neg (z -ℤ pos d *ℤ k)
 
-  off-downward : natAbs (negℤ z -ℤ pos d *ℤ nearest (negℤ z) d) ≡ off (downward z d)
-  off-downward = ap (λ x. natAbs (negℤ z -ℤ pos d *ℤ x)) (sym (negℤ-negℤ (nearest (negℤ z) d))) ∙ off-negated (downward z d)
+  far-downward : natAbs (negℤ z -ℤ pos d *ℤ nearest (negℤ z) d) ≡ far (downward z d)
+  far-downward = ap (λ x. natAbs (negℤ z -ℤ pos d *ℤ x)) (sym (negℤ-negℤ (nearest (negℤ z) d))) ∙ far-negated (downward z d)
 
-  pub rounded-nearest : (mode : ℕ) (k : ℤ) → off (rounded mode z d) ≤ off k
-  rounded-nearest mode k = rounded-of (λ x. off x ≤ off k) mode z d (nearest-nearest d h z k) (rw (off-downward, off-negated k) at (nearest-nearest d h (negℤ z) (negℤ k)))
+  pub rounded-nearest : (mode : ℕ) (k : ℤ) → far (rounded mode z d) ≤ far k
+  rounded-nearest mode k = rounded-of (λ x. far x ≤ far k) mode z d (nearest-nearest d h z k) (rw (far-downward, far-negated k) at (nearest-nearest d h (negℤ z) (negℤ k)))
 
   pub rounded-size : (mode M : ℕ) → natAbs z ≤ M * d → natAbs (rounded mode z d) ≤ M
   rounded-size mode M l = rounded-of (λ x. natAbs x ≤ M) mode z d (nearest-size d h z M l) (rw (natAbs-neg (nearest (negℤ z) d)) (nearest-size d h (negℤ z) M (rw (natAbs-neg z) l)))
@@ -148,9 +148,9 @@ module _ (d : ℕ) (h : 0 < d) (z : ℤ) where
   unfolding nearestEven
   one-even e = ap (cond (even (nearest z d)) (nearest z d)) (sym e) ∙ cond-same (even (nearest z d)) (nearest z d)
 
-  one-nearest : nearest z d ≡ downward z d → (k : ℤ) → off k ≡ off (nearest z d) → k ≡ nearest z d
+  one-nearest : nearest z d ≡ downward z d → (k : ℤ) → far k ≡ far (nearest z d) → k ≡ nearest z d
   one-nearest e k i =
-      let high : negℤ k ≤ℤ nearest (negℤ z) d = nearest-half d h (negℤ z) (negℤ k) (off-negated k ∙ i ∙ ap off e ∙ sym off-downward) in
+      let high : negℤ k ≤ℤ nearest (negℤ z) d = nearest-half d h (negℤ z) (negℤ k) (far-negated k ∙ i ∙ ap far e ∙ sym far-downward) in
       ≤ℤ-antisym (nearest-half d h z k i) (omega (zarith, e, of-neg k, of-neg (nearest (negℤ z) d)))
 
   one-negated : nearest z d ≡ downward z d → nearestEven (negℤ z) d ≡ negℤ (nearestEven z d)
@@ -177,8 +177,8 @@ module _ (d : ℕ) (h : 0 < d) (z : ℤ) where
       go true = sym (negℤ-negℤ (nearest (negℤ z) d))
       go false = refl
 
-  pub even-half : (k : ℤ) → off k ≡ off (nearestEven z d) → (k ≡ nearestEven z d → ⊥) → even (nearestEven z d) ≡ true
-  even-half k i n = ⊎-elim (λ e. absurd (n (one-nearest e k (i ∙ ap off (one-even e)) ∙ sym (one-even e)))) two-chosen sides
+  pub nearestEven-half : (k : ℤ) → far k ≡ far (nearestEven z d) → (k ≡ nearestEven z d → ⊥) → even (nearestEven z d) ≡ true
+  nearestEven-half k i n = ⊎-elim (λ e. absurd (n (one-nearest e k (i ∙ ap far (one-even e)) ∙ sym (one-even e)))) two-chosen sides
 
-  pub even-negated : nearestEven (negℤ z) d ≡ negℤ (nearestEven z d)
-  even-negated = ⊎-elim one-negated two-negated sides
+  pub nearestEven-negated : nearestEven (negℤ z) d ≡ negℤ (nearestEven z d)
+  nearestEven-negated = ⊎-elim one-negated two-negated sides

@@ -1,5 +1,5 @@
 -- A result over the divisor, rounded by the quotient below and the rest.
--- Laws: byte-most (a bool is at most 1); dividend (a result is small enough for both), before-half, past-half (which of two it is), rounded-fits.
+-- Laws: byte-most (a bool is at most 1); dividend (a result is what `rest` asks), before-half, past-half (which of two it is), rounded-fits.
 use Prim.Native.Nat.{ℕ, _+_, _*_, _≤_, _<_}
 use mathlib.Core.Path.{_≡_, refl}
 use mathlib.Core.Bool.{Bool, true, false, cond}

@@ -5,12 +5,13 @@ ghost use lib.ListN.{length};
 ghost use Rattle.meaning.specs.Values as meant;
 ghost use Rattle.theory.specs.Rounded.{goesUp};
 ghost use Rattle.outputs.specs.Ready.{Quotient, Convertible};
+use crate::EVEN;
 
-// Whether the half above this number goes up: in mode 0 where this number is odd, else always.
+// Whether the half above this number goes up: in mode 0 where this number is odd, in any other always.
 fn goes_up(mode: u64, below: i64) -> bool
     ensures { λ r. ⌜ r ≡ goesUp mode below ⌝ }
 {
-    (mode != 0) | (below % 2 != 0)
+    (mode != EVEN) | (below % 2 != 0)
 }
 
 // The nearest whole number: the one below, or past the half the one above. A half that goes up is past it.

@@ -41,7 +41,7 @@ pub fn whole_series(plan: Plan, bound: u64, results: &[i64], cells: &mut [i32]) 
     whole_series_by(plan, bound, EVEN, results, cells)
 }
 
-// The same of a picture, over the product of both divisors.
+// Of a picture, by a mode, over the product of both divisors.
 pub fn whole_picture_by(
     across: Plan,
     down: Plan,
@@ -65,6 +65,7 @@ pub fn whole_picture_by(
     answer
 }
 
+// The same of a picture, a half going to the even neighbour.
 pub fn whole_picture(
     across: Plan,
     down: Plan,

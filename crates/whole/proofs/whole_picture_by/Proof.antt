@@ -10,7 +10,7 @@ use Rattle.meaning.specs.Values.{rounded, outputRows, modeRows}
 use Rattle.theory.specs.Refusals.{first-then, then-done}
 use Rattle.theory.specs.AcceptedOutputs.{output-numbered}
 use Rattle.plan.specs.Structs.{stagesOf, answerOf}
-use Rattle.outputs.specs.Steps.{Passed, picture-passed, own-refused, own-done}
+use Rattle.outputs.specs.Steps.{Passed, picture-passed, cells-refused, cells-done}
 use Rattle.whole.proofs.whole_picture_by.Statement.{statement}
 use Rattle.whole.proofs.whole_picture_by.Tie as tie
 
@@ -26,7 +26,7 @@ answer-is c = first-then _ _ (output-numbered _ _ _ _) (c .before .picture .ensu
 returns : tie.Need-returns
 returns c =
     let a = c .before .before .before .before .args in
-    own-refused (modeRows (a .mode)) (rounded (a .mode)) (pictureOf (stagesOf (a .across)) (stagesOf (a .down)) (a .width) (a .height)) (a .bound) (a .results .now) (a .cells .now) (answer-is (c .before .before)) (c .if1 .taken)
+    cells-refused (modeRows (a .mode)) (rounded (a .mode)) (pictureOf (stagesOf (a .across)) (stagesOf (a .down)) (a .width) (a .height)) (a .bound) (a .results .now) (a .cells .now) (answer-is (c .before .before)) (c .if1 .taken)
 
 divisor-requires : tie.Need-divisor-requires
 divisor-requires c κs = search needs
@@ -55,7 +55,7 @@ returns-2 c =
     let d = c .before .before .before in
     let t = d .before .before .before .before in
     let a = t .before .before .args in
-    own-done (modeRows (a .mode)) (rounded (a .mode)) (pictureOf (stagesOf (a .across)) (stagesOf (a .down)) (a .width) (a .height)) (a .bound) (a .results .now) (a .cells .now) (answer-is t) (d .before .before .if1 .left) (passed d .divides) (c .before .whole-into .ensures)
+    cells-done (modeRows (a .mode)) (rounded (a .mode)) (pictureOf (stagesOf (a .across)) (stagesOf (a .down)) (a .width) (a .height)) (a .bound) (a .results .now) (a .cells .now) (answer-is t) (d .before .before .if1 .left) (passed d .divides) (c .before .whole-into .ensures)
 
 pub whole-picture-by-spec : {M : Type 1} → statement M
 whole-picture-by-spec =

@@ -8,7 +8,7 @@ use Rattle.meaning.specs.Values.{rounded, outputRows, modeRows}
 use Rattle.theory.specs.Refusals.{first-then, then-done}
 use Rattle.theory.specs.AcceptedOutputs.{output-numbered}
 use Rattle.plan.specs.Structs.{stagesOf, answerOf}
-use Rattle.outputs.specs.Steps.{Passed, series-passed, own-refused, own-done}
+use Rattle.outputs.specs.Steps.{Passed, series-passed, cells-refused, cells-done}
 use Rattle.whole.proofs.whole_series_by.Statement.{statement}
 use Rattle.whole.proofs.whole_series_by.Tie as tie
 
@@ -24,7 +24,7 @@ answer-is c = first-then _ _ (output-numbered _ _ _ _) (c .before .series .ensur
 returns : tie.Need-returns
 returns c =
     let a = c .before .before .before .before .args in
-    own-refused (modeRows (a .mode)) (rounded (a .mode)) (seriesOf (stagesOf (a .plan)) (length (a .results .now))) (a .bound) (a .results .now) (a .cells .now) (answer-is (c .before .before)) (c .if1 .taken)
+    cells-refused (modeRows (a .mode)) (rounded (a .mode)) (seriesOf (stagesOf (a .plan)) (length (a .results .now))) (a .bound) (a .results .now) (a .cells .now) (answer-is (c .before .before)) (c .if1 .taken)
 
 divisor-requires : tie.Need-divisor-requires
 divisor-requires c κs = search needs
@@ -45,7 +45,7 @@ returns-2 : tie.Need-returns-2
 returns-2 c =
     let d = c .before .before .before in
     let a = d .before .before .before .before .before .args in
-    own-done (modeRows (a .mode)) (rounded (a .mode)) (seriesOf (stagesOf (a .plan)) (length (a .results .now))) (a .bound) (a .results .now) (a .cells .now) (answer-is (d .before .before .before)) (d .before .if1 .left) (passed d .divides) (c .before .whole-into .ensures)
+    cells-done (modeRows (a .mode)) (rounded (a .mode)) (seriesOf (stagesOf (a .plan)) (length (a .results .now))) (a .bound) (a .results .now) (a .cells .now) (answer-is (d .before .before .before)) (d .before .if1 .left) (passed d .divides) (c .before .whole-into .ensures)
 
 pub whole-series-by-spec : {M : Type 1} → statement M
 whole-series-by-spec =

@@ -11,7 +11,7 @@ use lib.Signed.{mag, ltZ, shrZ}
 use mir.Syntax.{w64}
 use mir.Val.{SFits, toZ, ofZ}
 use mir.Facts.{toZ-ofZ, toZ-pos}
-use Rattle.quotient.specs.Turning.{turn-pos, turn-negsuc}
+use Rattle.quotient.specs.Turning.{turn-pos, turn-negsuc, quotient-fits}
 use Rattle.quotient.proofs.inner.floor.Statement.{statement}
 use Rattle.quotient.proofs.inner.floor.Tie as tie
 
@@ -32,9 +32,6 @@ negative (negsuc a) e h = record {
 positive : (z : ℤ) → ltZ z (pos 0) ≡ false → SFits w64 z → Divides z z (λ q. q)
 positive (pos a) e h = record { is = refl; fits = h; quotient = λ d. refl }
 positive (negsuc a) e h = absurd (true≢false e)
-
-quotient-fits : (a d : ℕ) → SFits w64 (pos a) → SFits w64 (pos (a / d))
-quotient-fits a d h = record { sfits = omega (arith, h .sfits, div-le-self a d) }
 
 turned-requires : tie.Need-turned-requires
 turned-requires c κs = search needs

@@ -8,12 +8,12 @@ use lib.Signed.{remZ}
 use mir.Syntax.{w64}
 use mir.Val.{ofZ}
 use mir.Facts.{toZ-ofZ}
-use Rattle.whole.specs.Parity.{rem-even, quotient-fits}
+use Rattle.whole.specs.Parity.{rem-even, division-fits}
 use Rattle.whole.proofs.converting.goes_up.Statement.{statement}
 use Rattle.whole.proofs.converting.goes_up.Tie as tie
 
 rem-result : tie.Need-rem-result
-rem-result c = rw (toZ-ofZ (c .fits .below)) (omega arith, quotient-fits (c .args .below) _ (c .fits .below))
+rem-result c = rw (toZ-ofZ (c .fits .below)) (omega arith, division-fits (c .args .below) _ (c .fits .below))
 
 returns : tie.Need-returns
 returns c = ap (λ even. not (eqb (c .args .mode) 0) || not even) (ap (λ z. eqb (ofZ w64 (remZ z (pos 2))) 0) (toZ-ofZ (c .fits .below)) ∙ rem-even (c .args .below))

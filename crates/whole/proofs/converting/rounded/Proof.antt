@@ -1,4 +1,4 @@
--- By the quotient below and the rest, which the test compares with a half, or with a half that goes up.
+-- Twice the rest, and 1 where a half goes up, is compared with the divisor: `below` and `above` say which of the two it is.
 use Prim.Native.Nat.{_*_, _<_}
 use mathlib.Core.Path.{_≡_, sym, _∙_}
 use native.Mathlib.Omega.{arith}
