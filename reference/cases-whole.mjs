@@ -27,8 +27,6 @@ function atTheLimit(chosen, bound) {
 }
 
 const HALF_LISTS = [
-  ['example', EIGHT, 4, [16, 12, 4]],
-  ['example, negated', EIGHT, 4, [-16, -12, -4]],
   ['halves of 8, even and odd', EIGHT, 9, halves(8, -5, 4)],
   ['halves of 10, even and odd', TEN, 9, halves(10, -5, 4)],
   ['halves of 2, even and odd', TWO, 9, halves(2, -5, 4)],
@@ -59,20 +57,21 @@ function inModes(cases) {
 const MODE_FAULTS = [2, 3, 2 ** 32, 2 ** 32 + 1, 2n ** 63n, LARGEST_U64]
   .map((mode) => fault(21, `mode ${mode}`, () => ({ mode })));
 
-// Lists that the two forms share are not told twice of one mode.
-const without = (lists, others) => lists.filter(([note]) => !others.some(([other]) => note === other));
-const SERIES_LISTS = [...HALF_LISTS, ...without(RESULT_LISTS, HALF_LISTS)];
-const PICTURES = [...HALF_PICTURES, ...without(PICTURE_LISTS, HALF_PICTURES)];
+// Of all other lists the form without a mode has the page's examples, and the short ones about limits.
+const EXAMPLES = RESULT_LISTS.filter(([note]) => note.startsWith('example'));
+const short = (lists) => lists.filter((list) => list.at(-1).length < 100);
 
 export const casesOfWhole = {
   7: () => [
-    ...inModes(listedSeries(7, WHOLE_CELLS, SERIES_LISTS)), ...seriesFaults(7, WHOLE_CELLS, { mode: 1 }, MODE_FAULTS),
+    ...inModes(listedSeries(7, WHOLE_CELLS, [...RESULT_LISTS, ...HALF_LISTS])),
+    ...seriesFaults(7, WHOLE_CELLS, { mode: 1 }, MODE_FAULTS),
   ],
   10: () => [
-    ...inModes(listedPictures(10, WHOLE_CELLS, PICTURES)), ...pictureFaults(10, WHOLE_CELLS, { mode: 1 }, MODE_FAULTS),
+    ...inModes(listedPictures(10, WHOLE_CELLS, [...PICTURE_LISTS, ...HALF_PICTURES])),
+    ...pictureFaults(10, WHOLE_CELLS, { mode: 1 }, MODE_FAULTS),
   ],
-  107: () => seriesOutputs(107, WHOLE_CELLS, [...HALF_LISTS, ...LIMIT_LISTS.filter(([, , , results]) => results.length < 100)]),
+  107: () => seriesOutputs(107, WHOLE_CELLS, [...EXAMPLES, ...HALF_LISTS, ...short(LIMIT_LISTS)]),
   110: () => pictureOutputs(110, WHOLE_CELLS, [
-    ...HALF_PICTURES, ...PICTURE_LIMIT_LISTS.filter(([, , , , results]) => results.length < 100),
+    ...asPictures(EXAMPLES), ...HALF_PICTURES, ...short(PICTURE_LIMIT_LISTS),
   ]),
 };

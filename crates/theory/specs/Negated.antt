@@ -1,6 +1,6 @@
 -- Negated samples and results: what smoothing and the outputs make of them.
 -- Laws: results-negated, picture-negated (the results of negated samples); nearestEven-negated-each (a half to the even neighbour, of negated results); smooth-negated, output-negated (their rows are those of the samples and results themselves).
-use Prim.Native.Nat.{ℕ, zero, suc, _+_, _*_, _<_}
+use Prim.Native.Nat.{ℕ, _+_, _*_, _<_}
 use mathlib.Core.Path.{_≡_, refl, sym, ap, ap₂, _∙_}
 use mathlib.Core.List.{List, [], _∷_, map}
 use lib.Dec.{ltb}
