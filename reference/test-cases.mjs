@@ -1,6 +1,8 @@
 // The cases against what their notes say.
 import { applies, samplesWrong } from './applies.mjs';
+import { divisorOfAll } from './calls.mjs';
 import { casesOf } from './cases.mjs';
+import { size } from './limits.mjs';
 import { seriesResults } from './smoothing.mjs';
 import { CALLS, decoded } from './stream.mjs';
 import { holds, same, text } from './testing.mjs';
@@ -33,6 +35,20 @@ function badFacts(name, cases) {
     if (wanted > 1 && wanted === (args.doubles ?? args.samples).length) met.add('all');
   }
   same(`${name}: cases of bad samples`, [0, 1, 'several', 'all'].map((each) => met.has(each)), BAD_MET[name]);
+}
+
+// Whole numbers out have halves over even and odd quotients of both signs, in every mode of a call that takes one.
+function halfFacts(name, takesMode, cases) {
+  const met = new Set();
+  for (const { words } of cases) {
+    const { args, outcome } = decoded(words);
+    if (outcome.number !== 0n) continue;
+    const divisor = divisorOfAll([args.plan, args.across, args.down].filter((plan) => plan !== undefined));
+    for (const result of args.results.filter((each) => size(2n * each) % (2n * divisor) === divisor)) {
+      met.add(`mode ${args.mode}, negative ${result < 0n}, odd ${size(result) / divisor % 2n}`);
+    }
+  }
+  same(`${name}: halves`, met.size, takesMode ? 8 : 4);
 }
 
 // What the seed chose may by chance be a case that is there already.
@@ -75,11 +91,12 @@ function alikeFacts(cases) {
 }
 
 export function testCases() {
-  for (const [call, { name }] of Object.entries(CALLS)) {
+  for (const [call, { name, takes }] of Object.entries(CALLS)) {
     const cases = casesOf(call);
     overlapFacts(name, cases);
     differentFacts(name, cases);
     if (name in BAD_MET) badFacts(name, cases);
+    if (name.startsWith('whole')) halfFacts(name, 'mode' in takes, cases);
   }
   chainFacts(casesOf(3));
   alikeFacts(casesOf(4));

@@ -1,10 +1,7 @@
 // The outputs and doubles in against facts that the requirements tell of them.
 import { asWhole, doublesIn, doublesPicture, summaryPicture, wholePicture } from './calls.mjs';
-import { casesOf } from './cases.mjs';
 import { chance } from './inputs.mjs';
 import { size } from './limits.mjs';
-import { divisorOf } from './smoothing.mjs';
-import { CALLS, decoded } from './stream.mjs';
 import { holds, plan, same } from './testing.mjs';
 
 // Both modes give a nearest whole number, and differ where there are two.
@@ -28,23 +25,6 @@ function wholeFacts() {
     const result = BigInt(below(2 ** 50) - 2 ** 49);
     roundingFacts(result, divisor);
     roundingFacts(result - result % (2n * divisor) + divisor, 2n * divisor);
-  }
-}
-
-// The cases of whole numbers out: halves over even and odd quotients of both signs, in every form and mode.
-function halvesMet() {
-  for (const call of [7, 10, 107, 110]) {
-    const met = new Set();
-    for (const { words } of casesOf(call)) {
-      const { args, outcome } = decoded(words);
-      if (outcome.number !== 0n) continue;
-      const divisor = [args.plan, args.across, args.down].filter((each) => each !== undefined)
-        .reduce((product, each) => product * divisorOf(each), 1n);
-      args.results.filter((result) => size(2n * result) % (2n * divisor) === divisor).forEach((result) => {
-        met.add(`${args.mode ?? 'none'} ${result < 0n} ${(size(result) / divisor) % 2n}`);
-      });
-    }
-    same(`${CALLS[call].name}: halves met`, met.size, 'mode' in CALLS[call].takes ? 8 : 4);
   }
 }
 
@@ -79,7 +59,6 @@ function doublesInFacts() {
 
 export function testValues() {
   wholeFacts();
-  halvesMet();
   outputFacts();
   doublesInFacts();
 }

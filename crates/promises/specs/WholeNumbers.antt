@@ -32,7 +32,7 @@ use Rattle.meaning.specs.Values.{nearest, nearestEven, rounded, Converted, outp
 use Rattle.meaning.specs.Bounds.{AllowedSeriesOut, AllowedPictureOut}
 use Rattle.theory.specs.Nearest.{nearest-half}
 use Rattle.theory.specs.Rounded.{rounded-nearest, rounded-size, nearestEven-half, even-twice}
-use Rattle.theory.specs.OwnRows.{mode-own, mode-off, off-mode, mode-refused, refused-mode}
+use Rattle.theory.specs.ModeRow.{mode-own, mode-off, off-mode, mode-refused, refused-mode}
 use Rattle.theory.specs.Refusals.{Off}
 use Rattle.theory.specs.AcceptedOutputs.{series-out-allowed, allowed-series-out, picture-out-allowed, allowed-picture-out}
 use Rattle.plan.specs.declared.Answer.{Answer}

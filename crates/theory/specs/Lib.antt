@@ -42,6 +42,7 @@
 --   AcceptedSmoothings   a smoothing, of a series or a picture, is done exactly where its bounds hold
 --   AcceptedOutputs   so is an output, of a series or a picture
 --   OwnRows      an output with rows of its own
+--   ModeRow      row 21
 --   Negated      negated samples and results
 --   Placed       rows 1 to 9 of a call with a place, and what follows them
 --   AcceptedEdits, AcceptedPoints   so are an edit and a point
@@ -97,6 +98,7 @@ pub mod Accepted
 pub mod AcceptedSmoothings
 pub mod AcceptedOutputs
 pub mod OwnRows
+pub mod ModeRow
 pub mod Negated
 pub mod Placed
 pub mod AcceptedEdits

@@ -1,23 +1,19 @@
 -- The rows of an output with rows of the call's own behind them.
 --   Behind own   their numbers rise from above 12 and stay below `most`, and none has a position or a bad sample
--- Laws: none-own, mode-own (no rows, and row 21, are such); mode-off, off-mode (row 21 is off exactly for modes up to the largest), mode-known, mode-other (what it answers);
--- own-rising, own-numbered; own-position (at 12), own-no-position (else); own-done (at 0 the first part answers 0, and no row of its own applies), own-rest (where the first part answers 0, its own rows answer);
--- mode-refused, refused-mode (21 exactly where the first part answers 0 and the mode is another).
-use Prim.Native.Nat.{ℕ, _*_, _≤_, _<_}
+-- Laws: none-own (no rows are such); own-rising, own-numbered; own-position (at 12), own-no-position (else);
+-- own-answers (a number above 12 is of its own rows), own-done (at 0 the first part answers 0, and no row of its own applies), own-rest (where the first part answers 0, its own rows answer).
+use Prim.Native.Nat.{ℕ, _*_, _<_}
 use mathlib.Core.Path.{_≡_, refl, sym, ap, _∙_}
 use mathlib.Core.Logic.{⊎-elim}
 use mathlib.Core.List.{List, [], _++_}
-use native.Mathlib.Decide.{decLt}
 use native.Mathlib.Omega.{arith}
 use lib.ListN.{length}
 use lib.IntN.{ℤ, natAbs}
-use borrow.Author.Tests.{ltb-false, le-ltb, lt-ltb}
-use Rattle.meaning.specs.Limits.{maxMode}
 use Rattle.meaning.specs.Extension.{at}
 use Rattle.meaning.specs.Refusals.{Answer, Row, firstOf, rowAt, Shape, planRows, sizeRows}
-use Rattle.meaning.specs.Values.{outputRows, modeRows}
+use Rattle.meaning.specs.Values.{outputRows}
 use Rattle.meaning.specs.Bounds.{FirstAt}
-use Rattle.theory.specs.Refusals.{done, Off, Numbered, Rising, RisingFrom, Unplaced, first-on, number-zero, done-off, off-done, append-off, done-rest, first-either, first-above, first-unplaced, rising-numbered}
+use Rattle.theory.specs.Refusals.{Off, Numbered, Rising, RisingFrom, Unplaced, number-zero, done-off, off-done, append-off, done-rest, first-either, first-above, first-unplaced, rising-numbered}
 use Rattle.theory.specs.AcceptedOutputs.{output-numbered, output-position, output-below, output-no-position}
 
 pub record Behind (own : List Row) : Type 0 where
@@ -28,27 +24,6 @@ pub record Behind (own : List Row) : Type 0 where
 pub none-own : Behind []
 none-own = record { rising = tt; most = 0; unplaced = tt }
 
--- ---- row 21
-pub mode-own : (mode : ℕ) → Behind (modeRows mode)
-unfolding modeRows
-mode-own mode = record { rising = tt; most = 22; unplaced = tt }
-
-pub mode-off : (mode : ℕ) → Off (modeRows mode) → mode ≤ maxMode
-unfolding modeRows
-mode-off mode h = ltb-false maxMode mode (h .0)
-
-pub off-mode : (mode : ℕ) → mode ≤ maxMode → Off (modeRows mode)
-unfolding modeRows
-off-mode mode l = (le-ltb maxMode mode l, tt)
-
-pub mode-known : (mode : ℕ) → mode ≤ maxMode → firstOf (modeRows mode) ≡ done
-mode-known mode l = off-done (modeRows mode) (off-mode mode l)
-
-pub mode-other : (mode : ℕ) → maxMode < mode → firstOf (modeRows mode) ≡ record { number = 21; position = 0; bad = 0 }
-unfolding modeRows
-mode-other mode l = first-on _ [] (lt-ltb maxMode mode l)
-
--- ---- the rows of both parts
 module _ (s : Shape) (M : ℕ) (r : List ℤ) (n : ℕ) (own : List Row) where
   abbrev first : List Row
   first = outputRows s M r n
@@ -76,7 +51,7 @@ module _ (s : Shape) (M : ℕ) (r : List ℤ) (n : ℕ) (own : List Row) where
           (first-either first own (output-numbered s M r n) e)
 
       -- a number that none of the first part has
-      own-answers : 12 < x .number → (firstOf first .number ≡ 0) × (x ≡ firstOf own)
+      pub own-answers : 12 < x .number → (firstOf first .number ≡ 0) × (x ≡ firstOf own)
       own-answers l = ⊎-elim
           (λ f. let no : ⊥ = omega (arith, output-below s M r n f (λ h. omega arith)) in absurd no)
           (λ p. (ap (λ (a : Answer). a .number) (off-done first (p .0)), p .1))
@@ -89,17 +64,3 @@ module _ (s : Shape) (M : ℕ) (r : List ℤ) (n : ℕ) (own : List Row) where
 
   pub own-rest : firstOf first .number ≡ 0 → firstOf (first ++ own) ≡ firstOf own
   own-rest z = sym (done-rest first own (output-numbered s M r n) refl z refl)
-
--- ---- whole output, whose own row is 21
-module _ (s : Shape) (M : ℕ) (r : List ℤ) (n mode : ℕ) {x : Answer} (e : x ≡ firstOf (outputRows s M r n ++ modeRows mode)) where
-  pub mode-refused : x .number ≡ 21 → (firstOf (outputRows s M r n) .number ≡ 0) × (maxMode < mode)
-  mode-refused h =
-      let (z, f) = own-answers s M r n (modeRows mode) (mode-own mode) e (omega arith) in
-      (z, go (decLt maxMode mode) (ap (λ (a : Answer). a .number) f))
-    where
-      go : Dec (maxMode < mode) → x .number ≡ firstOf (modeRows mode) .number → maxMode < mode
-      go (yes l) f = l
-      go (no l) f = let g = ap (λ (a : Answer). a .number) (mode-known mode (omega arith)) in let no : ⊥ = omega arith in absurd no
-
-  pub refused-mode : firstOf (outputRows s M r n) .number ≡ 0 → maxMode < mode → x .number ≡ 21
-  refused-mode z l = ap (λ (a : Answer). a .number) (e ∙ own-rest s M r n (modeRows mode) z ∙ mode-other mode l)

@@ -8,9 +8,10 @@ use plan::Plan;
 mod converting;
 mod mode;
 
-// The modes: a half goes to the even neighbour, or upward, for columns that are stored so.
+// The mode in which a half goes to the even neighbour.
 pub const EVEN: u64 = 0;
 
+// The mode in which it goes upward, for columns that are stored so.
 pub const UPWARD: u64 = 1;
 
 // Each result over the divisor, to the nearest whole number, a half going by the mode. A refused call changes no cell.

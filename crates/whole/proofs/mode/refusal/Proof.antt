@@ -1,7 +1,7 @@
 -- The mode decides.
 use mathlib.Core.Path.{sym}
 use native.Mathlib.Omega.{arith}
-use Rattle.theory.specs.OwnRows.{mode-known, mode-other}
+use Rattle.theory.specs.ModeRow.{mode-known, mode-other}
 use Rattle.whole.proofs.mode.refusal.Statement.{statement}
 use Rattle.whole.proofs.mode.refusal.Tie as tie
 
