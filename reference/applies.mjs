@@ -2,8 +2,8 @@
 // lowest that applies, so that of a case of two numbers it does not tell whether the other applies at all.
 // The arguments are those that the stream hands out.
 import {
-  MOST_BOUND, MOST_CELLS, MOST_INNER, MOST_MODE, MOST_PASSES, MOST_PRODUCT, MOST_RADIUS, MOST_SIDE, MOST_SIGMA,
-  outside, size,
+  MOST_BOUND, MOST_CELLS, MOST_INNER, MOST_MODE, MOST_PASSES, MOST_PRODUCT, MOST_RADIUS, MOST_RESULT, MOST_SIDE,
+  MOST_SIGMA, outside, size,
 } from './limits.mjs';
 import { divisorOf, reachOf } from './smoothing.mjs';
 
@@ -13,8 +13,10 @@ function plansOf(args) {
   return [args.plan, args.across, args.down].filter((plan) => plan !== undefined);
 }
 
-// M times the divisor. By 64 passes every divisor above 1 is larger than what a result can hold.
+// M times the divisor. By 64 passes every divisor above 1 is larger than what a result can hold. A call without a plan
+// takes every result.
 function mostOf(args) {
+  if (plansOf(args).length === 0) return MOST_RESULT;
   const counted = (plan) => ({ ...plan, passes: plan.passes > 64n ? 64n : plan.passes });
   return plansOf(args).reduce((product, plan) => product * divisorOf(counted(plan)), args.bound);
 }
@@ -47,9 +49,9 @@ function sampleTested(args, n) {
   return 'position' in args ? near(args, n) : true;
 }
 
-// How many of the samples that the call tests are not acceptable.
+// How many of the samples that the call tests are not acceptable. Without a bound, doubles are to be results.
 export function samplesWrong(args) {
-  const { bound, doubles, samples } = args;
+  const { bound = MOST_RESULT, doubles, samples } = args;
   const wrong = doubles
     ? (double) => !(Number.isInteger(double) && Math.abs(double) <= Number(bound))
     : (sample, n) => sampleTested(args, n) && size(BigInt(sample)) > bound;

@@ -3,8 +3,8 @@
 // Whole numbers are BigInt, since any 64-bit number may be asked; a plain number in an answer is a double.
 // Samples and whole cells are Int32Array, results and work BigInt64Array, doubles Float64Array.
 import {
-  MOST_BOUND, MOST_CELLS, MOST_INNER, MOST_MODE, MOST_PASSES, MOST_PRODUCT, MOST_RADIUS, MOST_SIDE, MOST_SIGMA,
-  outside, size,
+  MOST_BOUND, MOST_CELLS, MOST_INNER, MOST_MODE, MOST_PASSES, MOST_PRODUCT, MOST_RADIUS, MOST_RESULT, MOST_SIDE,
+  MOST_SIGMA, outside, size,
 } from './limits.mjs';
 import {
   divisorOf, kernelOf, pictureResults, planFor, reachOf, resultAt, seriesResults, weightAt,
@@ -209,17 +209,39 @@ export function planByItself({ plan }) {
 
 // Doubles in.
 
-function acceptable(double, bound) {
-  return Number.isInteger(double) && Math.abs(double) <= Number(bound);
+function acceptable(double, most) {
+  return Number.isInteger(double) && Math.abs(double) <= Number(most);
+}
+
+function doublesRefused(doubles, most) {
+  return badRefused(0, doubles.length - 1, (n) => !acceptable(doubles[n], most));
 }
 
 export function doublesIn({ bound, doubles, samples }) {
   const refused = boundRefused(bound)
     ?? lengthRefused(doubles.length)
     ?? slicesRefused(doubles.length, samples)
-    ?? badRefused(0, doubles.length - 1, (n) => !acceptable(doubles[n], bound));
+    ?? doublesRefused(doubles, bound);
   if (refused) return { ...refused, samples };
   return { ...DONE, samples: Int32Array.from(doubles) };
+}
+
+// Results to doubles and back, each the same number. A BigInt zero has no sign, so minus zero comes back as plus zero.
+
+export function resultsToDoubles({ results, cells }) {
+  const refused = lengthRefused(results.length)
+    ?? slicesRefused(results.length, cells)
+    ?? resultsRefused(results, MOST_RESULT);
+  if (refused) return { ...refused, cells };
+  return { ...DONE, cells: Float64Array.from(results, (result) => Number(result)) };
+}
+
+export function doublesToResults({ doubles, results }) {
+  const refused = lengthRefused(doubles.length)
+    ?? slicesRefused(doubles.length, results)
+    ?? doublesRefused(doubles, MOST_RESULT);
+  if (refused) return { ...refused, results };
+  return { ...DONE, results: wholeResults(doubles) };
 }
 
 // The outputs.

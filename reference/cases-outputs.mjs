@@ -3,7 +3,7 @@
 import { divisorOf } from './smoothing.mjs';
 import {
   BAD_SAMPLES, EIGHT, EXACT, EXACT_BOUND, FIVE, LARGE, LARGE_BOUND, LARGE_MOST, LARGEST_I64, LEAST_I32, LEAST_I64,
-  MOST_BOUND, ONE, SEVENS, THREE, TWO,
+  MOST_BOUND, NEGATIVE_NAN, ONE, QUIET_NAN, SEVENS, SIGNALLING_NAN, THREE, TWO,
   anyBound, anyPlan, anySamples, chance, filled, junk, largestBound, pick, plan, times,
 } from './inputs.mjs';
 import { BOUND_FAULTS, PICTURE_LIMITS, SERIES_LIMITS, fault, faultCases, lengthFaults, put } from './faults.mjs';
@@ -11,13 +11,12 @@ import { bitsOf } from './stream.mjs';
 
 // Call 6. Doubles are given as their bits.
 
-const QUIET_NAN = 0x7ff8000000000000n;
-const NEGATIVE_NAN = 0xfff8000000000001n;
-const SIGNALLING_NAN = 0x7ff0000000000001n;
+export function bitsOfAll(doubles) {
+  return doubles.map((each) => (typeof each === 'bigint' ? each : bitsOf(each)));
+}
 
 function doublesInCase(note, bound, doubles, samples = filled(doubles.length, 7)) {
-  const bits = doubles.map((each) => (typeof each === 'bigint' ? each : bitsOf(each)));
-  return { note, args: { bound, doubles: bits, samples } };
+  return { note, args: { bound, doubles: bitsOfAll(doubles), samples } };
 }
 
 const SINGLE_DOUBLES = [
@@ -154,7 +153,8 @@ function chosenSeriesLists(below) {
 
 // The cells at entry: whole ones and doubles, among them values that no conversion could keep.
 export const WHOLE_CELLS = (length) => times(length, (n) => [7, LEAST_I32, -7][n] ?? 8);
-const DOUBLE_CELLS = (length) => times(length, (n) => [bitsOf(-0), NEGATIVE_NAN, SIGNALLING_NAN][n] ?? bitsOf(0.1));
+export const DOUBLE_CELLS = (length) => times(length, (n) => (
+  [bitsOf(-0), NEGATIVE_NAN, SIGNALLING_NAN][n] ?? bitsOf(0.1)));
 const NO_CELLS = null;
 
 function withCells(args, cells) {

@@ -7,6 +7,7 @@ import { casesOfPoints } from './cases-points.mjs';
 import { casesOfOutputs } from './cases-outputs.mjs';
 import { casesOfWhole } from './cases-whole.mjs';
 import { casesOfCarries } from './cases-carry.mjs';
+import { casesOfExact } from './cases-exact.mjs';
 import { casesOfRecords } from './cases-records.mjs';
 import { casesOfPlanner } from './cases-planner.mjs';
 import { casesOfPlans } from './cases-plans.mjs';
@@ -33,13 +34,15 @@ export const NUMBERS_GIVEN = {
   14: [0, 7, 8],
   15: [0, 1, 2, 3, 4, 5, 6, 7, 8, 12],
   16: [0, 1, 2, 3, 4, 5, 6, 7, 8, 12],
+  25: [0, 7, 8, 12],
+  26: [0, 7, 8, 11],
   107: [0, 1, 2, 3, 4, 5, 6, 7, 8, 12],
   110: [0, 1, 2, 3, 4, 5, 6, 7, 8, 12],
 };
 
 const CASES = {
   ...casesOfSmoothing, ...casesOfPictures, ...casesOfEdits, ...casesOfPoints, ...casesOfOutputs, ...casesOfWhole,
-  ...casesOfCarries, ...casesOfRecords, ...casesOfPlanner, ...casesOfPlans,
+  ...casesOfCarries, ...casesOfExact, ...casesOfRecords, ...casesOfPlanner, ...casesOfPlans,
 };
 
 // The cases of a call: a note and the call's words.

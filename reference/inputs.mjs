@@ -9,6 +9,11 @@ export const LEAST_I32 = -(2 ** 31);
 export const MOST_BOUND = 2 ** 31 - 1;
 const MOST_PRODUCT = 2n ** 53n - 1n;
 
+// Doubles that are not a number, by their bits.
+export const QUIET_NAN = 0x7ff8000000000000n;
+export const NEGATIVE_NAN = 0xfff8000000000001n;
+export const SIGNALLING_NAN = 0x7ff0000000000001n;
+
 export function plan(radius, inner, edge, passes) {
   return { radius, inner, edge, passes };
 }

@@ -82,7 +82,16 @@ export const CALLS = {
     name: 'carry-picture', run: calls.carryPicture,
     takes: { ...PICTURE, results: 'i64s', cells: 'i32s' }, prints: ['number', 'position', 'carry', 'cells'],
   },
-  // Later calls of the page go on from 17, so what else the library has begins here.
+  // 17 to 24 are kept for calls to come.
+  25: {
+    name: 'results-to-doubles', run: calls.resultsToDoubles,
+    takes: { results: 'i64s', cells: 'f64s' }, prints: ['number', 'position', 'cells'],
+  },
+  26: {
+    name: 'doubles-to-results', run: calls.doublesToResults,
+    takes: { doubles: 'f64s', results: 'i64s' }, prints: ['number', 'position', 'bad', 'results'],
+  },
+  // Later calls of the page go on from 27, so what else the library has begins here.
   100: {
     name: 'plan', run: calls.planByItself,
     takes: { plan: 'plan' }, prints: ['divisor', 'reach'],
@@ -206,9 +215,17 @@ function printed(value) {
   return sliceParts(value);
 }
 
-function lineOf({ call, args }) {
-  const outcome = call.run(args);
+export function lineOfOutcome(call, outcome) {
   return call.prints.flatMap((name) => printed(outcome[name])).join(' ');
+}
+
+function lineOf({ call, args }) {
+  return lineOfOutcome(call, call.run(args));
+}
+
+// The one call of these words, and its arguments by name.
+export function argumentsOf(words) {
+  return new Words(words).call();
 }
 
 // The arguments of the one call of these words, by name, and its outcome.

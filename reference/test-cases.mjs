@@ -7,10 +7,11 @@ import { seriesResults } from './smoothing.mjs';
 import { CALLS, decoded } from './stream.mjs';
 import { holds, same, text } from './testing.mjs';
 
-// The calls that test samples, and which cases of bad ones they have. An edit tests one.
+// The calls that test samples or doubles, and which cases of bad ones they have. An edit tests one.
 const MANY = [true, true, true, true];
 const BAD_MET = {
   'smooth-series': MANY, 'smooth-picture': MANY, edit: [true, true, false, false], point: MANY, 'doubles-in': MANY,
+  'doubles-to-results': MANY,
 };
 
 // A case `A before B` is answered A, and B applies to it as well.
@@ -24,7 +25,7 @@ function overlapFacts(name, cases) {
   }
 }
 
-// The number of bad samples is that of those tested at 11, else 0. There are cases of none, one, several and all bad.
+// The number of bad ones is that of those tested at 11, else 0. There are cases of none, one, several and all bad.
 function badFacts(name, cases) {
   const met = new Set();
   for (const { note, words } of cases) {
@@ -34,7 +35,7 @@ function badFacts(name, cases) {
     met.add(wanted > 1 ? 'several' : wanted);
     if (wanted > 1 && wanted === (args.doubles ?? args.samples).length) met.add('all');
   }
-  same(`${name}: cases of bad samples`, [0, 1, 'several', 'all'].map((each) => met.has(each)), BAD_MET[name]);
+  same(`${name}: cases of bad ones`, [0, 1, 'several', 'all'].map((each) => met.has(each)), BAD_MET[name]);
 }
 
 // Whole numbers out have halves over even and odd quotients of both signs, in every mode of a call that takes one.

@@ -41,6 +41,15 @@ function streamFacts() {
   same('line of refused doubles', linesFor(callWords(6, {
     bound: 1n, doubles: [0.5, 1, 2].map(bitsOf), samples: [7, 8, 9],
   })), ['11 0 2 7 8 9']);
+  same('line of results as doubles', linesFor(callWords(25, { results: [0, -1], cells: [0.5, -0].map(bitsOf) })),
+    [`0 0 0 ${0xbff0000000000000n}`]);
+  same('line of refused results', linesFor(callWords(25, { results: [0, 2n ** 53n], cells: [0.5, -0].map(bitsOf) })),
+    [`12 1 ${0x3fe0000000000000n} ${2n ** 63n}`]);
+  same('line of doubles as results', linesFor(callWords(26, { doubles: [-0, -1].map(bitsOf), results: [7, 8] })),
+    ['0 0 0 0 -1']);
+  same('line of doubles that are no results', linesFor(callWords(26, {
+    doubles: [1, 0.5, 2 ** 53].map(bitsOf), results: [7, -8, 9],
+  })), ['11 1 2 7 -8 9']);
   same('bytes', linesFor(wordsOfBytes(bytesOfWords([...words, ...words]))), new Array(2).fill('0 0 0 32 24 8 0 0 0'));
   same('line of a plan', linesFor(callWords(100, { plan: plan(1, 2, 1, 8) })), ['16777216 16']);
   same('line of a stretch', linesFor(callWords(101, { record: [9, 255, 255, 255, 254, 9], start: 1, size: 5, index: 0 })),
@@ -49,7 +58,7 @@ function streamFacts() {
   same('slice too long', linesFor([...words, 13n, 131_073n]), ['0 0 0 32 24 8 0 0 0', 'stop']);
   same('negative length', linesFor([13n, -1n]), ['stop']);
   same('call broken off', linesFor([...words, ...words.slice(0, 9)]), ['0 0 0 32 24 8 0 0 0']);
-  for (const none of [0n, 17n, 99n, 103n, 2n ** 32n + 1n, -1n]) {
+  for (const none of [0n, 17n, 24n, 27n, 99n, 103n, 2n ** 32n + 1n, -1n]) {
     same(`call ${none}`, linesFor([...words, none, ...words]), ['0 0 0 32 24 8 0 0 0']);
   }
   same('bits', [bitsOf(0), bitsOf(-0), bitsOf(1)], [0n, 2n ** 63n, 0x3ff0000000000000n]);

@@ -1,11 +1,13 @@
 // Holds the definitions of `meaning` to the independent program. Each stored vector that is small enough becomes an
-// equation between what a definition says of the call and what the program says, and the prover computes it.
+// equation between what a definition says of the call and what the program says, and the prover computes it; so does
+// each row of the tables of what a host's numbers are taken as.
 // The equations stand in a crate of a temporary repository; nothing of them is kept.
 import { spawnSync } from 'node:child_process';
 import { cpSync, mkdirSync, mkdtempSync, rmSync, writeFileSync } from 'node:fs';
 import { tmpdir } from 'node:os';
 import { dirname, join } from 'node:path';
 import { fileURLToPath } from 'node:url';
+import * as host from '../reference/arguments.mjs';
 import * as job from '../reference/record.mjs';
 import { storedCases } from '../reference/stored.mjs';
 import { CALLS, bitsOf, decoded } from '../reference/stream.mjs';
@@ -63,11 +65,19 @@ const answerIs = (rows, out) => `firstOf (${rows}) ≡ ${answerOf(out)}`;
 const series = ({ plan }, slice) => `(seriesOf ${planOf(plan)} ${slice.length})`;
 const picture = ({ across, down, width, height }) => `(pictureOf ${planOf(across)} ${planOf(down)} ${width} ${height})`;
 
-// Rows 1 to 8 alone, for slices too long to write down. Whether their lengths are wrong is taken from the outcome.
+// Rows 1 to 8 alone, for slices too long to write down; null of a call without such rows. Of a call with a plan,
+// whether the lengths are wrong is taken from the outcome.
 function longSlices(args, out) {
-  const shape = args.plan ? series(args, args.samples ?? args.results) : picture(args);
   const refused = out.number >= 1n && out.number <= 8n;
-  return answerIs(`commonRows ${shape} ${args.bound} ${refused}`, refused ? out : { number: 0n });
+  const rows = commonRowsOf(args, refused);
+  return rows === null ? null : answerIs(rows, refused ? out : { number: 0n });
+}
+
+function commonRowsOf(args, refused) {
+  const { plan, across, bound, samples, results, doubles, cells } = args;
+  if (plan) return `commonRows ${series(args, samples ?? results)} ${bound} ${refused}`;
+  if (across) return `commonRows ${picture(args)} ${bound} ${refused}`;
+  return results ? `lengthRows ${(doubles ?? results).length} ${(cells ?? results).length}` : null;
 }
 
 function smoothed(call, shape, { bound, samples, results, work }, out, isQuick) {
@@ -120,6 +130,14 @@ function ofPlan(definition, name) {
 
 function doublesIn({ bound, doubles, samples }, out) {
   return outcomeIs(`doublesIn ${bound} ${floats(doubles)} ${wholes(samples)}`, out, { cells: wholes(out.samples) });
+}
+
+function resultsToDoubles({ results, cells }, out) {
+  return outcomeIs(`resultsToDoubles ${wholes(results)} ${floats(cells)}`, out, { cells: floats(out.cells) });
+}
+
+function doublesToResults({ doubles, results }, out) {
+  return outcomeIs(`doublesToResults ${floats(doubles)} ${wholes(results)}`, out, { cells: wholes(out.results) });
 }
 
 function outputInputs({ plan, across, down, bound, width, height, mode = '', results }) {
@@ -176,6 +194,28 @@ function programOfSeries({ plan, bound, samples }) {
   return number === 0n ? programOfRecord({ record: bytes }, job.readRecord({ record: bytes })) : null;
 }
 
+// What a host's numbers are taken as.
+
+function wholeTaken([double, taken]) {
+  return `wholeOf (${float(double)}) ≡ ${whole(taken)}`;
+}
+
+function countTaken([double, , taken]) {
+  return `countOf (${float(double)}) ≡ ${taken}`;
+}
+
+function planTaken([doubles, [radius, inner, edge, passes]]) {
+  return `planIn ${floats(doubles)} ≡ ${record({ radius, inner, edge, passes })}`;
+}
+
+function recordWritten([, plan, bound, samples, room]) {
+  const lent = new Uint8Array(room).fill(170);
+  const out = host.writeRecordIn({ plan, bound, samples, record: lent });
+  const numbers = `(planIn ${floats(plan)}) (countOf (${float(bound)}))`;
+  const call = `writeRecordIn ${numbers} ${wholes(samples)} ${naturals(lent)}`;
+  return outcomeIs(call, out, { slice: naturals(out.record) });
+}
+
 const EQUATIONS = [
   [1, smoothSeries],
   [2, smoothPicture],
@@ -195,12 +235,21 @@ const EQUATIONS = [
   [14, writeRecord],
   [15, carrying('carrySeries')],
   [16, carrying('carryPicture')],
+  [25, resultsToDoubles],
+  [26, doublesToResults],
   [100, ofPlan('planDivisor', 'divisor'), 'divisor'],
   [100, ofPlan('planReach', 'reach'), 'reach'],
   [101, stretchOf, 'stretch'],
   [101, sampleOf, 'sample'],
   [107, output('wholeSeries', wholes)],
   [110, output('wholePicture', wholes)],
+];
+
+const TABLES = [
+  ['whole-of', host.DOUBLES_TAKEN, wholeTaken],
+  ['count-of', host.DOUBLES_TAKEN, countTaken],
+  ['plan-in', host.PLANS_TAKEN, planTaken],
+  ['write-record-in', host.RECORDS_WRITTEN, recordWritten],
 ];
 
 // The crate of equations. Every definition is opened to the prover.
@@ -217,12 +266,15 @@ const OPENED = {
   'Rattle.meaning.specs.Values':
     'nearest even nearestEven ratio takes doubleRows doublesIn outputRows converted modeRows unbeaten summary',
   'Rattle.meaning.specs.Carry': 'carry carryCell carried',
+  'Rattle.meaning.specs.Exact': 'lengthRows exactRows resultsToDoubles backRows doublesToResults',
   'Rattle.meaning.specs.Calls': 'smoothRows smoothed gained editRows changed editSeries pointRows point',
   'Rattle.meaning.specs.Planner': 'largest radiusFor nearestDown edgeFor widened stageFor plannerRows planFor',
   'Rattle.meaning.specs.Encoding': 'bytes number text digits decimal',
   'Rattle.meaning.specs.Record':
     'field sampleBytes sampleAt stretch samplesOf recordOf begins reading readRecord writeRecord',
   'Rattle.meaning.specs.Program': 'firstLine resultLines report program',
+  'Rattle.meaning.specs.Arguments': 'wholeOf unsigned countOf planIn',
+  'Rattle.meaning.specs.HostRecord': 'fieldRows writeRecordIn',
 };
 
 const HEAD = [
@@ -248,12 +300,18 @@ function equationOf(equation, { args, outcome }) {
   if (values.every((each) => !(each.length > (each.BYTES_PER_ELEMENT === 1 ? MOST_BYTES : MOST_CELLS)))) {
     return equation(args, outcome);
   }
-  return args.plan || args.across ? longSlices(args, outcome) : null;
+  return longSlices(args, outcome);
 }
 
-function equationsOf(call, equation) {
+function ofVectors([call, equation, name = CALLS[call].name]) {
   const cases = storedCases(call).map(({ words }) => decoded(words));
-  return cases.map((each) => equationOf(equation, each)).filter((each) => each !== null);
+  const equations = cases.map((each) => equationOf(equation, each)).filter((each) => each !== null);
+  if (equations.length === 0) throw new Error(`no vector of ${name} is small enough`);
+  return [name, equations, 'vectors'];
+}
+
+function ofTable([name, rows, equation]) {
+  return [name, rows.map((row) => equation(row)), 'rows'];
 }
 
 function moduleText(equations) {
@@ -275,10 +333,9 @@ function writeRepository(folder) {
   writeFileSync(crate('agreement', 'src', 'lib.rt'), '// Equations only: see specs/.\n');
 
   let count = 0;
-  const modules = EQUATIONS.map(([call, equation, name = CALLS[call].name], n) => {
-    const equations = equationsOf(call, equation);
-    console.log(`${name}: ${equations.length} vectors`);
-    if (equations.length === 0) throw new Error(`no vector of ${name} is small enough`);
+  const parts = [...EQUATIONS.map(ofVectors), ...TABLES.map(ofTable)];
+  const modules = parts.map(([name, equations, kind], n) => {
+    console.log(`${name}: ${equations.length} ${kind}`);
     writeFileSync(crate('agreement', 'specs', `Part${n}.antt`), moduleText(equations));
     count += equations.length;
     return `pub mod Part${n}\n`;

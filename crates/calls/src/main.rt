@@ -70,7 +70,7 @@ fn one_call(
             results,
             samples,
         ),
-        6 | 8 | 9 | 11 | 12 => calls_outputs::inner::one_call(
+        6 | 8 | 9 | 11 | 12 | 25 | 26 => calls_outputs::inner::one_call(
             &mut open,
             number,
             samples,

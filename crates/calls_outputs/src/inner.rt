@@ -1,4 +1,4 @@
-// Doubles in, and doubles and summaries out. Each call is read by one function, and made and printed by the next.
+// Doubles in, doubles and summaries out, and results as doubles and back. Each call is read by one function, and made and printed by the next.
 ghost use Prim.Native.Nat.{_≤_};
 ghost use lib.ListN.{length};
 use calls_stream::inner::input;
@@ -7,7 +7,7 @@ use calls_stream::inner::output;
 use plan::Plan;
 use summary::Summary;
 
-// Calls 6, 8, 9, 11 and 12.
+// Calls 6, 8, 9, 11, 12, 25 and 26.
 pub fn one_call(
     open: &mut bool,
     number: u64,
@@ -23,7 +23,9 @@ pub fn one_call(
         8 => doubles_series(open, results, doubles, words),
         9 => summary_series(open, results),
         11 => doubles_picture(open, results, doubles, words),
-        _ => summary_picture(open, results),
+        12 => summary_picture(open, results),
+        25 => results_to_doubles(open, results, doubles, words),
+        _ => doubles_to_results(open, results, doubles, words),
     }
 }
 
@@ -127,5 +129,41 @@ fn summarised(summary: Summary) {
     output::double(summary.highest);
     output::number(summary.lowest_at as u64);
     output::number(summary.highest_at as u64);
+    output::end_line();
+}
+
+// Call 25.
+fn results_to_doubles(open: &mut bool, results: &mut [i64], cells: &mut [f64], words: &mut [u64])
+    requires { ⌜ length (now cells) ≤ length (now words) ⌝ }
+{
+    let n = input::wholes(open, results);
+    let count = input::doubles(open, words, cells);
+    if *open {
+        as_doubles(&results[..n], &mut cells[..count], words);
+    }
+}
+
+fn as_doubles(results: &[i64], cells: &mut [f64], words: &mut [u64])
+    requires { ⌜ length (now cells) ≤ length (now words) ⌝ }
+{
+    output::answer(exact::results_to_doubles(results, cells));
+    output::doubles(cells, words);
+    output::end_line();
+}
+
+// Call 26.
+fn doubles_to_results(open: &mut bool, results: &mut [i64], doubles: &mut [f64], words: &mut [u64])
+    requires { ⌜ length (now doubles) ≤ length (now words) ⌝ }
+{
+    let n = input::doubles(open, words, doubles);
+    let count = input::wholes(open, results);
+    if *open {
+        as_results(&doubles[..n], &mut results[..count]);
+    }
+}
+
+fn as_results(doubles: &[f64], results: &mut [i64]) {
+    output::checked(exact::doubles_to_results(doubles, results));
+    output::wholes(results);
     output::end_line();
 }

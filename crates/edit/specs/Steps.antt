@@ -1,5 +1,5 @@
 -- The steps of an edit, each over plain lists.
--- Laws: position-inside, value-fits, change-fits, editable (what rows 1 to 11 leave); call-refused, call-too-large, call-done.
+-- Laws: position-inside, value-fits, change-fits, editable (what rows 1 to 11 leave); edit-refused, edit-too-large, edit-done (the ends of an edit without work); call-refused, call-done (of the call, with it).
 use Prim.Native.Nat.{ℕ, _+_, _*_, _≤_, _<_}
 use mathlib.Core.Path.{_≡_, refl, sym, _∙_, ap}
 use mathlib.Core.List.{List}
@@ -15,24 +15,24 @@ use Rattle.meaning.specs.Refusals.{Answer, firstOf, zeros}
 use Rattle.meaning.specs.Calls.{gained, editRows, editSeries}
 use Rattle.theory.specs.Refusals.{refused-first, done-rest, ifDone-done, ifDone-refused}
 use Rattle.theory.specs.AcceptedEdits.{Begun}
-use Rattle.edit.specs.Contract.{Gives}
+use Rattle.edit.specs.Contract.{GivesAlone, Gives}
 use Rattle.edit.specs.Rows.{frontRows, rows-parts, front-numbered, front-allowed}
 use Rattle.stored.specs.Changes.{Changes, Editable}
 
--- ---- the ends of a call whose test of rows 1 to 11 answered a
-module _ (ss : List Stage) (M p : ℕ) (v : ℤ) (f r w : List ℤ) {a : Answer} (e : a ≡ firstOf (frontRows ss M p v f (length r) (length w))) where
+-- ---- the ends of an edit whose test of rows 1 to 11 answered a
+module _ (ss : List Stage) (M p : ℕ) (v : ℤ) (f r : List ℤ) (nw : ℕ) {a : Answer} (e : a ≡ firstOf (frontRows ss M p v f (length r) nw)) where
   abbrev d : ℤ
   d = v -ℤ at f p
 
-  pub call-refused : (a .number ≡ 0 → ⊥) → Gives (editSeries fold ss M p v f r w) a 0 f r w
+  pub edit-refused : (a .number ≡ 0 → ⊥) → (w : List ℤ) → length w ≡ nw → GivesAlone (editSeries fold ss M p v f r w) a 0 f r
   unfolding editSeries
-  call-refused h =
-      let all = refused-first _ _ e h ∙ sym (ap firstOf (rows-parts ss M p v f r (gained fold ss p d r) (length w))) in
-      rw (← all) (record { answer = refl; count = sym (ifDone-refused a _ 0 h); samples = sym (ifDone-refused a _ f h); results = sym (ifDone-refused a _ r h); work = sym (ifDone-refused a _ w h) })
+  edit-refused h w l =
+      let all = refused-first _ _ e h ∙ sym (ap firstOf (rows-parts ss M p v f r (gained fold ss p d r) nw)) in
+      rw (l, ← all) (record { answer = refl; count = sym (ifDone-refused a _ 0 h); samples = sym (ifDone-refused a _ f h); results = sym (ifDone-refused a _ r h) })
 
   module _ (z : a .number ≡ 0) where
-    begun : Begun ss M p v f (length r) (length w) × (natAbs (at f p) ≤ M)
-    begun = front-allowed ss M p v f (length r) (length w) e z
+    begun : Begun ss M p v f (length r) nw × (natAbs (at f p) ≤ M)
+    begun = front-allowed ss M p v f (length r) nw e z
 
     pub position-inside : p < length f
     position-inside = begun .0 .position
@@ -50,13 +50,23 @@ module _ (ss : List Stage) (M p : ℕ) (v : ℤ) (f r w : List ℤ) {a : Answer}
     editable = record { common = rw (begun .0 .results) (begun .0 .common); position = rw (begun .0 .results) position-inside; change = omega (arith, change-size .bound) }
 
     module _ {b : Answer} {k : ℕ} {left : List ℤ} (h : Changes ss (M * divisor ss) p (v -ℤ at f p) r b k left) where
-      all : b ≡ firstOf (editRows ss M p v f r (gained fold ss p (v -ℤ at f p) r) (length w))
-      all = done-rest _ _ (front-numbered ss M p v f (length r) (length w)) e z (h .answer) ∙ sym (ap firstOf (rows-parts ss M p v f r (gained fold ss p d r) (length w)))
+      all : b ≡ firstOf (editRows ss M p v f r (gained fold ss p (v -ℤ at f p) r) nw)
+      all = done-rest _ _ (front-numbered ss M p v f (length r) nw) e z (h .answer) ∙ sym (ap firstOf (rows-parts ss M p v f r (gained fold ss p d r) nw))
 
-      pub call-too-large : (b .number ≡ 0 → ⊥) → Gives (editSeries fold ss M p v f r w) b k f left w
+      pub edit-too-large : (b .number ≡ 0 → ⊥) → (w : List ℤ) → length w ≡ nw → GivesAlone (editSeries fold ss M p v f r w) b k f left
       unfolding editSeries
-      call-too-large n = rw (← all) (record { answer = refl; count = h .count; samples = sym (ifDone-refused b _ f n); results = h .results; work = sym (ifDone-refused b _ w n) })
+      edit-too-large n w l = rw (l, ← all) (record { answer = refl; count = h .count; samples = sym (ifDone-refused b _ f n); results = h .results })
 
-      pub call-done : b .number ≡ 0 → {u : ℤ} → u ≡ v → {wrk : List ℤ} → wrk ≡ zeros w → Gives (editSeries fold ss M p v f r w) b k (set f p u) left wrk
+      pub edit-done : b .number ≡ 0 → {u : ℤ} → u ≡ v → (w : List ℤ) → length w ≡ nw → GivesAlone (editSeries fold ss M p v f r w) b k (set f p u) left
       unfolding editSeries
-      call-done n g t = rw (← all) (record { answer = refl; count = h .count; samples = ap (set f p) g ∙ sym (ifDone-done b _ f n); results = h .results; work = t ∙ sym (ifDone-done b _ w n) })
+      edit-done n g w l = rw (l, ← all) (record { answer = refl; count = h .count; samples = ap (set f p) g ∙ sym (ifDone-done b _ f n); results = h .results })
+
+-- ---- the ends of the call, which clears its work where the edit is done
+module _ (ss : List Stage) (M p : ℕ) (v : ℤ) (f r w : List ℤ) {a : Answer} {k : ℕ} {g s : List ℤ} (e : GivesAlone (editSeries fold ss M p v f r w) a k g s) where
+  pub call-refused : (a .number ≡ 0 → ⊥) → Gives (editSeries fold ss M p v f r w) a k g s w
+  unfolding editSeries
+  call-refused h = record { answer = e .answer; count = e .count; samples = e .samples; results = e .results; work = sym (ifDone-refused _ _ w (rw (← e .answer) h)) }
+
+  pub call-done : a .number ≡ 0 → {x : List ℤ} → x ≡ zeros w → Gives (editSeries fold ss M p v f r w) a k g s x
+  unfolding editSeries
+  call-done z t = record { answer = e .answer; count = e .count; samples = e .samples; results = e .results; work = t ∙ sym (ifDone-done _ _ w (rw (← e .answer) z)) }

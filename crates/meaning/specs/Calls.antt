@@ -3,7 +3,7 @@
 --   smoothSeries      of plan, bound, samples, results, work: a Smoothed
 --   smoothPicture     of two plans, bound, width, height, samples, results, work: a Smoothed
 --   smoothed          the outcome of either, `new` being the results where it is done; its rows are smoothRows
---   editRoom ss N     cells of work that edit and point ask, 2N under every plan
+--   editRoom ss N     cells of work that edit and point ask, 2N under every plan;  asked ss N  so many, all zeros
 --   gained            the results after an edit
 --   changed r new     how many results changed
 --   editSeries        of plan, bound, position, new value, samples, results, work: an Edited; its rows are editRows
@@ -12,7 +12,7 @@ use Prim.Native.Nat.{ℕ, _*_}
 use mathlib.Core.Bool.{Bool, true, cond, _&&_, _||_}
 use mathlib.Core.List.{List, [], _∷_, _++_}
 use lib.Dec.{leb, eqb}
-use lib.ListN.{length, set}
+use lib.ListN.{length, set, replicate}
 use lib.IntN.{ℤ, pos, _+ℤ_, _-ℤ_, _*ℤ_}
 use lib.Signed.{ltZ}
 use lib.Ieee.{Float}
@@ -54,6 +54,9 @@ smoothPicture φ ψ hs vs M W H f r w = smoothed (pictureOf hs vs W H) M (pictur
 -- "work 2N for point and edit"
 abbrev pub editRoom : List Stage → ℕ → ℕ
 editRoom ss N = 2 * N
+
+unfoldable pub asked : List Stage → ℕ → List ℤ
+asked ss N = replicate (editRoom ss N) (pos 0)
 
 -- "each result within reach gains (new - old) times its weight from p, and all others stay"
 unfoldable pub gained : IndexMap → List Stage → ℕ → ℤ → List ℤ → List ℤ

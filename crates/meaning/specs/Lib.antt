@@ -7,12 +7,15 @@
 --   Refusals    the table of numbers, and the lowest that applies; how many samples are bad is of document 02
 --   Values      doubles in; whole numbers, doubles and summary out
 --   Carry       whole numbers out that add up; its page is document 02
+--   Exact       results as doubles that are the same numbers, and back
 --   Calls       smoothing a series and a picture, an edit, a point: what each answers and leaves
 --   Bounds      the table of bounds as inequalities, beside the rows
 --   Planner     from standard deviation to radius and edge weight; which whole weight is taken is of document 02
 --   Encoding    numbers as bytes and as text
 --   Record      the job record: reader and writer
 --   Program     what `smooth` prints
+--   Arguments   what the doubles are taken as that a host lends
+--   HostRecord  the writer as a host calls it
 --   Examples    the page's examples, one table under one theorem
 -- Document 01's calls are these with `fold` for every index map and `plan r b a K` for every list of stages.
 -- A lent slice that an outcome does not name is only read.
@@ -27,10 +30,13 @@ pub mod Picture
 pub mod Refusals
 pub mod Values
 pub mod Carry
+pub mod Exact
 pub mod Calls
 pub mod Bounds
 pub mod Planner
 pub mod Encoding
 pub mod Record
 pub mod Program
+pub mod Arguments
+pub mod HostRecord
 pub mod Examples

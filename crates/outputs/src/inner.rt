@@ -10,7 +10,7 @@ use plan::Answer;
 use plan::Plan;
 
 // Row 12: the first result whose size is above the limit.
-fn result_refusal(limit: u64, results: &[i64]) -> Answer
+pub fn result_refusal(limit: u64, results: &[i64]) -> Answer
     ensures { λ r. ⌜ answerOf r ≡ R.firstOf (R.rowAt 12 (length (now (results .entry))) (λ i. R.above limit (at (now (results .entry)) i)) ∷ []) ⌝ }
 {
     let mut i: usize = 0;

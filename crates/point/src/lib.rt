@@ -6,17 +6,17 @@ ghost use Rattle.point.specs.Contract.{Gives};
 use plan::Plan;
 use plan::Point;
 
+pub mod inner;
 mod testing;
 
 // The result at `position` over the divisor, and zeros left in work. A refused call changes no cell.
 pub fn point(plan: Plan, bound: u64, position: usize, samples: &[i32], work: &mut [i64]) -> Point
     ensures { λ r. ⌜ Gives (C.point fold (stagesOf plan) bound position (now (samples .entry)) (now (work .entry))) r (now (work .exit)) ⌝ }
 {
-    let answer = testing::refusal(plan, bound, position, samples, work.len());
-    if answer.number != 0 {
-        return Point::Refused(answer.number, answer.position, answer.bad);
-    }
-    let result = result::inner::result(plan, samples, position);
+    let answer = inner::point_within(plan, bound, position, samples, work.len());
+    let Point::Value(value) = answer else {
+        return answer;
+    };
     pass::inner::clear(work);
-    Point::Value(doubles::inner::ratio(result, plan.divisor()))
+    Point::Value(value)
 }

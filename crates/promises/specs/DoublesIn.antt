@@ -21,6 +21,7 @@ use mathlib.Core.Path.{_≡_, sym, ap, _∙_}
 use mathlib.Core.Logic.{_≢_}
 use mathlib.Core.Bool.{true}
 use mathlib.Core.List.{List, map}
+use native.Mathlib.Omega.{arith}
 use lib.ListN.{length, getD, length-map}
 use lib.IntN.{ℤ, pos, natAbs}
 use lib.Ieee.{Float, nan, fin, binary64, ofInt, toSigned, eq}
@@ -128,13 +129,13 @@ module _ (c : DoublesCall) where
       taken = whole-takes _ (doubles-in-allowed .0 e .doubles i l)
 
       pub doubles-in-samples : (eq (ofInt binary64 (sample c i)) (double c i) ≡ true) × (natAbs (sample c i) ≤ bound c)
-      doubles-in-samples = let m = doubles-in-allowed .0 e .bound .1 in rw sample-is (taken-same _ m _ taken, taken-size _ m _ taken)
+      doubles-in-samples = let m = doubles-in-allowed .0 e .bound .1 in rw sample-is (taken-same _ (omega (arith, m)) _ taken 31 (omega (arith, m)), taken-size _ (omega (arith, m)) _ taken 31 (omega (arith, m)))
 
       pub doubles-in-minus-zero : {k : ℤ} → double c i ≡ fin true 0 k → sample c i ≡ pos 0
-      doubles-in-minus-zero {k} z = sample-is ∙ ap (toSigned 31) z ∙ minus-zero k
+      doubles-in-minus-zero {k} z = sample-is ∙ ap (toSigned 31) z ∙ minus-zero 31 (omega arith) k
 
       pub doubles-in-back : {z : ℤ} → natAbs z ≤ bound c → double c i ≡ ofInt binary64 z → sample c i ≡ z
-      doubles-in-back {z} m h = sample-is ∙ ap (toSigned 31) h ∙ back-taken (bound c) (doubles-in-allowed .0 e .bound .1) z m .1
+      doubles-in-back {z} m h = let l = doubles-in-allowed .0 e .bound .1 in sample-is ∙ ap (toSigned 31) h ∙ back-taken (bound c) (omega (arith, l)) 31 (omega (arith, l)) z m .1
 
 -- ---- two calls
 outcome-same : {M L : ℕ} {xs ys : List Float} {f g : List ℤ} → M ≡ L → xs ≡ ys → f ≡ g → doublesIn M xs f ≡ doublesIn L ys g

@@ -26,7 +26,6 @@
 use Prim.Native.Nat.{ℕ, _+_, _*_, _^_, _≤_, _<_}
 use mathlib.Core.Path.{_≡_, refl, sym, ap, ap₂, _∙_, subst}
 use mathlib.Core.Logic.{_≢_}
-use mathlib.Core.Bool.{Bool, true, false, true≢false}
 use mathlib.Core.List.{List}
 use lib.ListN.{length}
 use lib.IntN.{ℤ, pos, natAbs, _-ℤ_, _*ℤ_}
@@ -62,6 +61,7 @@ use Rattle.plan.specs.declared.Plan.{Plan}
 use Rattle.plan.specs.declared.Point.{Point}
 use Rattle.plan.specs.declared.Point.the-variants.{Value, Refused}
 use Rattle.plan.specs.Structs.{stagesOf, pointAnswer, pointValue, pointOf, pointOf-done, pointOf-refused, pointAnswer-of}
+use Rattle.point.specs.Steps.{not-both}
 use Rattle.point.proofs.point.Reads as point
 use Rattle.point.proofs.point.Kinds as kinds
 use Rattle.promises.specs.Smoothings.{Exactly}
@@ -127,13 +127,6 @@ abbrev pub Whole : ℤ → Float → Type 0
 Whole z x = HasValue x (ltZ z (pos 0)) (natAbs z) 1
 
 -- ---- one call
-not-both : {x : Float} {n i k : ℕ} → Value x ≡ Refused n i k → ⊥
-not-both e = true≢false (ap valued e)
-  where
-    valued : Point → Bool
-    valued (Value x) = true
-    valued (Refused n i k) = false
-
 abbrev outcome : PointCall → outcomes.Pointed
 outcome c = outcomes.point fold (stages c) (bound c) (position c) (samples c) (work c)
 

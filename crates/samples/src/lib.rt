@@ -4,6 +4,7 @@ ghost use Rattle.plan.specs.Structs.{checkedAnswer};
 ghost use Rattle.plan.specs.Contract.{Gives};
 use plan::Checked;
 
+pub mod inner;
 mod taking;
 
 // Takes doubles as samples: finite, whole and of size at most the bound. A refused call changes no cell.

@@ -1,60 +1,17 @@
 // Doubles as samples.
 ghost use mathlib.Core.Path.{_≡_};
-ghost use mathlib.Core.Bool.{not, true};
-ghost use mathlib.Core.List.{[], _∷_, map};
-ghost use Prim.Native.Nat.{_≤_};
-ghost use lib.ListN.{length, getD};
-ghost use lib.Ieee.{nan, toSigned};
+ghost use mathlib.Core.Bool.{true};
+ghost use mathlib.Core.List.{map};
+ghost use lib.ListN.{length};
+ghost use lib.Ieee.{toSigned};
 ghost use Rattle.meaning.specs.Limits.{maxBound};
 ghost use Rattle.meaning.specs.Refusals as R;
 ghost use Rattle.meaning.specs.Values as meant;
 ghost use Rattle.plan.specs.Structs.{checkedAnswer};
 ghost use Rattle.samples.specs.Taking.{Takable};
+use crate::inner;
 use plan::Checked;
 use plan::Plan;
-
-// Is x finite, whole and of size at most the bound? The first two tests are false of a NaN, and leave what an i64 holds.
-fn takes(bound: u64, x: f64) -> bool
-    requires { ⌜ bound ≤ maxBound ⌝ }
-    ensures { λ r. ⌜ r ≡ meant.takes bound x ⌝ }
-{
-    if !(x >= -9223372036854775808.0) {
-        return false;
-    }
-    if !(x < 9223372036854775808.0) {
-        return false;
-    }
-    let whole = std::num::truncating_f64_to_i64(x);
-    if bound < refusals::inner::size(whole) {
-        return false;
-    }
-    whole as f64 == x
-}
-
-// Row 11, of all doubles. From the last down, as samples are counted.
-fn double_refusal(bound: u64, doubles: &[f64]) -> Checked
-    requires { ⌜ bound ≤ maxBound ⌝ }
-    ensures { λ r. ⌜ checkedAnswer r ≡ R.firstOf (R.rowAt 11 (length (now (doubles .entry))) (λ i. not (meant.takes bound (getD (now (doubles .entry)) i nan))) ∷ []) ⌝ }
-{
-    let mut answer = Checked {
-        number: 0,
-        position: 0,
-        bad: 0,
-    };
-    let mut i = doubles.len();
-    while i > 0 {
-        i -= 1;
-        if !takes(bound, doubles[i]) {
-            let bad = answer.bad + 1;
-            answer = Checked {
-                number: 11,
-                position: i,
-                bad,
-            };
-        }
-    }
-    answer
-}
 
 // There is no plan, and so no product that could be too large.
 pub(crate) fn refusal(bound: u64, doubles: &[f64], samples: usize) -> Checked
@@ -70,7 +27,7 @@ pub(crate) fn refusal(bound: u64, doubles: &[f64], samples: usize) -> Checked
             bad: 0,
         };
     }
-    double_refusal(bound, doubles)
+    inner::double_refusal(bound, doubles)
 }
 
 // A double that is accepted is cast, and loses nothing, but for the sign of minus zero.

@@ -1,7 +1,8 @@
 -- Doubles that are whole numbers, and the whole number that each is cut to.
 -- Laws: takes-whole, whole-takes (a double is taken exactly where it is a whole number of size at most the bound);
 -- taken-size, taken-same (what it is cut to has at most that size, and is that double), back-taken (a whole number as a double is taken as that number), minus-zero;
--- low-untaken, high-untaken, large-untaken, cut-taken (the tests by which code takes one); zero-cut, taken-casts (its cast to 32 bits).
+-- low-untaken, high-untaken, large-untaken, cut-taken (the tests by which code takes one); zero-cut, taken-casts (its cast to a signed number).
+-- A number of h is signed, and has h bits beside its sign.
 use mathlib.Core.Path.{_≡_, refl, sym, ap, _∙_}
 use mathlib.Core.Logic.{_⊎_, inl, inr, ⊎-map}
 use mathlib.Core.Bool.{Bool, true, false, cond, Bool·beq, true≢false}
@@ -16,7 +17,7 @@ use lib.Signed.{ltZ}
 use lib.Ieee.{Float, nan, inf, fin, binary64, up, down, ofInt, toSigned, lt, le, eq, whole, inSigned}
 use lib.Ieee.Fits.{down-pos}
 use Rattle.algebra.specs.Size.{natAbs-neg}
-use Rattle.meaning.specs.Limits.{maxBound}
+use Rattle.meaning.specs.Limits.{maxResult}
 use Rattle.meaning.specs.Values.{takes, plusZero}
 use Rattle.meaning.specs.Bounds.{WholeDouble}
 use Rattle.theory.specs.Tests.{and-yes, yes-and, yes-or, same-when}
@@ -111,20 +112,20 @@ whole-near (fin false m e) w l = rw (lt-ltb (m * up e * 1) (1 * 2 ^ 63 * down e)
 abbrev zero-whole : (s : Bool) (e : ℤ) → WholeDouble 0 (fin s 0 e)
 zero-whole s e = record { negative = s; size = 0; most = omega arith; is = (refl, simp zero-mul) }
 
-whole-casts : {M : ℕ} (x : Float) → WholeDouble M x → M ≤ maxBound → eq x plusZero ≡ false → T (inSigned binary64 31 x)
+whole-casts : (h : ℕ) {M : ℕ} (x : Float) → WholeDouble M x → M ≤ maxResult → M < 2 ^ h → eq x plusZero ≡ false → T (inSigned binary64 h x)
 unfolding inSigned whole
-whole-casts nan w l n = absurd (w .is)
-whole-casts (inf s) w l n = absurd (w .is)
-whole-casts (fin s zero e) w l n = absurd (true≢false (sym (same-equal _ _ (zero-whole s e) (zero-whole false (pos 0)) refl (inr refl)) ∙ n))
-whole-casts (fin true (suc m) e) w l n = let (q, r) = cut-at (suc m) e (w .size) (w .is .1) in rw (q, r, ne-eqb (suc m) 0 (λ z. omega arith), le-leb (w .size) (2 ^ 53) (omega (arith, w .most)), le-leb (w .size) (2 ^ 31) (omega (arith, w .most))) tt
-whole-casts (fin false (suc m) e) w l n = let (q, r) = cut-at (suc m) e (w .size) (w .is .1) in rw (q, r, le-leb (w .size) (2 ^ 53) (omega (arith, w .most)), lt-ltb (w .size) (2 ^ 31) (omega (arith, w .most))) tt
+whole-casts h nan w l k n = absurd (w .is)
+whole-casts h (inf s) w l k n = absurd (w .is)
+whole-casts h (fin s zero e) w l k n = absurd (true≢false (sym (same-equal _ _ (zero-whole s e) (zero-whole false (pos 0)) refl (inr refl)) ∙ n))
+whole-casts h (fin true (suc m) e) w l k n = let (q, r) = cut-at (suc m) e (w .size) (w .is .1) in rw (q, r, ne-eqb (suc m) 0 (λ z. omega arith), le-leb (w .size) (2 ^ 53) (omega (arith, w .most)), le-leb (w .size) (2 ^ h) (omega (arith, w .most))) tt
+whole-casts h (fin false (suc m) e) w l k n = let (q, r) = cut-at (suc m) e (w .size) (w .is .1) in rw (q, r, le-leb (w .size) (2 ^ 53) (omega (arith, w .most)), lt-ltb (w .size) (2 ^ h) (omega (arith, w .most))) tt
 
-module _ (M : ℕ) (l : M ≤ maxBound) where
+module _ (M : ℕ) (l : M ≤ maxResult) where
   abbrev back-whole : (z : ℤ) → natAbs z ≤ M → WholeDouble M (ofInt binary64 z)
   back-whole z k = record { negative = ltZ z (pos 0); size = natAbs z; most = k; is = whole-exact z (omega arith) }
 
-  pub back-taken : (z : ℤ) → natAbs z ≤ M → (takes M (ofInt binary64 z) ≡ true) × (toSigned 31 (ofInt binary64 z) ≡ z)
-  back-taken z k = (whole-takes _ (back-whole z k), whole-cut 31 _ (back-whole z k) (omega arith) ∙ signed-back z)
+  pub back-taken : (h : ℕ) → M < 2 ^ h → (z : ℤ) → natAbs z ≤ M → (takes M (ofInt binary64 z) ≡ true) × (toSigned h (ofInt binary64 z) ≡ z)
+  back-taken h n z k = (whole-takes _ (back-whole z k), whole-cut h _ (back-whole z k) n ∙ signed-back z)
 
   module _ (x : Float) where
     module _ (t : takes M x ≡ true) where
@@ -134,21 +135,16 @@ module _ (M : ℕ) (l : M ≤ maxBound) where
       size-is : natAbs (signed (it .negative) (it .size)) ≡ it .size
       size-is = signed-size (it .negative) (it .size)
 
-      cut-size : (h : ℕ) → M < 2 ^ h → natAbs (toSigned h x) ≤ M
-      cut-size h k = rw (whole-cut h x it k, size-is) (it .most)
+      module _ (h : ℕ) (k : M < 2 ^ h) where
+        pub taken-size : natAbs (toSigned h x) ≤ M
+        taken-size = rw (whole-cut h x it k, size-is) (it .most)
 
-      cut-same : (h : ℕ) → M < 2 ^ h → eq (ofInt binary64 (toSigned h x)) x ≡ true
-      cut-same h k = rw (whole-cut h x it k) (same-equal _ x (back-whole _ (rw size-is (it .most))) it size-is (⊎-map (λ e. e) (λ e. size-is ∙ e) (signed-sign (it .negative) (it .size))))
+        pub taken-same : eq (ofInt binary64 (toSigned h x)) x ≡ true
+        taken-same = rw (whole-cut h x it k) (same-equal _ x (back-whole _ (rw size-is (it .most))) it size-is (⊎-map (λ e. e) (λ e. size-is ∙ e) (signed-sign (it .negative) (it .size))))
 
-      pub taken-size : natAbs (toSigned 31 x) ≤ M
-      taken-size = cut-size 31 (omega arith)
-
-      pub taken-same : eq (ofInt binary64 (toSigned 31 x)) x ≡ true
-      taken-same = cut-same 31 (omega arith)
-
-      -- what the cast to 32 bits asks; it has no minus zero
-      pub taken-casts : eq x plusZero ≡ false → T (inSigned binary64 31 x)
-      taken-casts = whole-casts x it l
+        -- what the cast asks; it has no minus zero
+        pub taken-casts : eq x plusZero ≡ false → T (inSigned binary64 h x)
+        taken-casts = whole-casts h x it l k
 
     -- the tests by which code takes one
     pub low-untaken : le (fin true 1 (pos 63)) x ≡ false → takes M x ≡ false
@@ -158,21 +154,21 @@ module _ (M : ℕ) (l : M ≤ maxBound) where
     high-untaken k = eq-false-of-not-eq-true (λ t. true≢false (sym (whole-near x (it t) (omega arith) .1) ∙ k))
 
     pub large-untaken : M < natAbs (toSigned 63 x) → takes M x ≡ false
-    large-untaken k = eq-false-of-not-eq-true (λ t. omega (arith, cut-size t 63 (omega arith)))
+    large-untaken k = eq-false-of-not-eq-true (λ t. omega (arith, taken-size t 63 (omega arith)))
 
     pub cut-taken : natAbs (toSigned 63 x) ≤ M → eq (ofInt binary64 (toSigned 63 x)) x ≡ takes M x
-    cut-taken k = same-when _ _ (λ t. whole-takes x (equal-whole _ x (back-whole _ k) t)) (λ t. cut-same t 63 (omega arith))
+    cut-taken k = same-when _ _ (λ t. whole-takes x (equal-whole _ x (back-whole _ k) t)) (λ t. taken-same t 63 (omega arith))
 
 -- ---- zero
 signed-zero : (s : Bool) → signed s 0 ≡ pos 0
 signed-zero true = refl
 signed-zero false = refl
 
-pub zero-cut : (x : Float) → eq x plusZero ≡ true → toSigned 31 x ≡ pos 0
+pub zero-cut : (h : ℕ) → 0 < 2 ^ h → (x : Float) → eq x plusZero ≡ true → toSigned h x ≡ pos 0
 unfolding eq
-zero-cut nan t = absurd (true≢false (sym t))
-zero-cut (inf s) t = absurd (true≢false (sym t))
-zero-cut (fin s m e) t = whole-cut 31 _ (record { negative = s; size = 0; most = le-refl 0; is = (refl, eqb-true _ _ (and-yes (eqb (m * up e * 1) (0 * 1 * down e)) _ t .0)) }) (omega arith) ∙ signed-zero s
+zero-cut h k nan t = absurd (true≢false (sym t))
+zero-cut h k (inf s) t = absurd (true≢false (sym t))
+zero-cut h k (fin s m e) t = whole-cut h _ (record { negative = s; size = 0; most = le-refl 0; is = (refl, eqb-true _ _ (and-yes (eqb (m * up e * 1) (0 * 1 * down e)) _ t .0)) }) k ∙ signed-zero s
 
-pub minus-zero : (e : ℤ) → toSigned 31 (fin true 0 e) ≡ pos 0
-minus-zero e = whole-cut 31 _ (zero-whole true e) (omega arith)
+pub minus-zero : (h : ℕ) → 0 < 2 ^ h → (e : ℤ) → toSigned h (fin true 0 e) ≡ pos 0
+minus-zero h k e = whole-cut h _ (zero-whole true e) k

@@ -1,7 +1,7 @@
 -- What an edit makes of results: those within reach gain, all others stay, and of a true smoothing comes that of the new samples.
 --   resultRow ss L p r new   row 12 of an edit, under the limit L
 -- Laws: length-gained, gained-near, gained-far; gained-changed, gained-changes (which results change), changed-same, changed-all,
--- changed-is (how many); gained-fresh (of a true smoothing comes one), fresh-passes (a true smoothing passes row 12).
+-- changed-is (how many); gained-fresh (of a true smoothing comes one), fresh-passes (a true smoothing passes row 12); asked-length (of the work that an edit asks).
 use mathlib.Core.Path.{_≡_, refl, sym, _∙_, ap}
 use mathlib.Core.Logic.{_≢_}
 use mathlib.Core.Bool.{Bool, true, false, cond, _&&_, _||_}
@@ -10,7 +10,7 @@ use Prim.Native.Nat.{ℕ, _+_, _*_, _-_, _≤_, _<_, min}
 use native.Mathlib.Decide.{decLe, ℕ-discrete}
 use native.Mathlib.Omega.{arith}
 use lib.Dec.{eqb}
-use lib.ListN.{length, set, length-set}
+use lib.ListN.{length, set, length-set, length-replicate}
 use lib.IntN.{ℤ, pos, natAbs, _+ℤ_, _-ℤ_, _*ℤ_, zero-*ℤ, +ℤ-idr}
 use borrow.Author.Tests.{le-ltb, eq-eqb, ne-eqb}
 use Rattle.algebra.specs.Order.{zarith}
@@ -19,7 +19,7 @@ use Rattle.meaning.specs.Extension.{at, IndexMap}
 use Rattle.meaning.specs.Kernel.{Stage, reach, divisor}
 use Rattle.meaning.specs.Smoothing.{result, results, weight, apart, near}
 use Rattle.meaning.specs.Refusals.{Row, rowAt, above}
-use Rattle.meaning.specs.Calls.{gained, changed}
+use Rattle.meaning.specs.Calls.{editRoom, asked, gained, changed}
 use Rattle.theory.specs.Folding.{Folding, Nearness}
 use Rattle.theory.specs.Lists.{length-listOf, at-listOf, listOf-ext, listOf-at, Sized, sized-set}
 use Rattle.theory.specs.Stages.{PositiveInner}
@@ -98,3 +98,8 @@ resultRow ss L p r new = rowAt 12 (length r) (λ n. near ss n p && (above L (at 
 pub fresh-passes : {φ : IndexMap} → Nearness φ → (ss : List Stage) {M : ℕ} {f : List ℤ} → Sized M f → (p : ℕ) {v : ℤ} → p < length f → Abs v M → resultRow ss (M * divisor ss) p (results φ ss f) (gained φ ss p (v -ℤ at f p) (results φ ss f)) .applies ≡ false
 fresh-passes {φ} C ss {M} {f} h p {v} l k =
     rw (gained-fresh C ss f p v l) (rowAt-off 12 _ (λ n i. no-and (near ss n p) _ (λ t. no-or (le-ltb _ _ (results-size φ h ss .size n .bound)) (le-ltb _ _ (results-size φ (sized-set h p k) ss .size n .bound)))))
+
+-- ---- the work that is asked
+pub asked-length : (ss : List Stage) (N : ℕ) → length (asked ss N) ≡ editRoom ss N
+unfolding asked
+asked-length ss N = length-replicate _ _

@@ -53,6 +53,8 @@
 --   Widened      an edge weight that is the inner weight
 --   Planner      the planner's rule
 --   Survey       what the survey's edge weight is
+--   Narrow       how large the numbers are that a call answers
+--   Arguments    what a host's doubles are taken as
 -- A law over an index map φ takes `F : Folding φ`, where it speaks of reach `C : Nearness φ`, and of totals `B : Balanced φ`:
 -- for document 01, half-sample, half-sample-near and half-sample-balanced.
 pub mod Folding
@@ -110,3 +112,5 @@ pub mod Programs
 pub mod Widened
 pub mod Planner
 pub mod Survey
+pub mod Narrow
+pub mod Arguments

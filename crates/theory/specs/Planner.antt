@@ -198,7 +198,7 @@ module _ (s K b : ℕ) where
     pub least-Q : 10000 ≤ Q
     least-Q = omega (arith, ok .passes .0)
 
-    allowed-stage : AllowedStage (stageFor s Q b)
+    pub allowed-stage : AllowedStage (stageFor s Q b)
     unfolding stageFor
     allowed-stage =
         let l = radius-most s Q least-Q (ok .sigma .1) in

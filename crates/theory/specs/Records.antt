@@ -276,12 +276,13 @@ module _ {s : List ℕ} (h : Bytes s) (z : readRecord s .answer .number ≡ 0) w
 
 -- ---- what the reader answers
 pub record Stretch (s : List ℕ) (j : Job) : Type 0 where
+  pub early : j .start ≤ 27
   pub whole : j .start + j .size ≡ length s
   pub few : j .size / 4 ≤ maxSamples
 
 -- by lengths alone, so of lists that need not be bytes
 stretched : (s s₅ : List ℕ) → length s₅ ≡ length s - 24 → holdsSamples s₅ ≡ true → (j : Job) → j .start ≡ length s - (length s₅ - 3) → j .size ≡ length s₅ - 3 → Stretch s j
-stretched s s₅ l e j start size = record { whole = omega arith; few = rw size (held s₅ e .2 .1) }
+stretched s s₅ l e j start size = record { early = omega arith; whole = omega arith; few = rw size (held s₅ e .2 .1) }
 
 read-walk : (s : List ℕ) → (readRecord s ≡ notWellFormed) ⊎ ((readRecord s .answer ≡ done) × Stretch s (readRecord s))
 unfolding readRecord

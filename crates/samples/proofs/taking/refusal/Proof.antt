@@ -1,4 +1,5 @@
 -- Rows 5, 7 and 8, and where none applies row 11.
+use native.Mathlib.Omega.{arith}
 use borrow.Author.Needs.{needs}
 use Rattle.samples.specs.Taking.{test-refused, test-bound, test-rest}
 use Rattle.samples.proofs.taking.refusal.Statement.{statement}
@@ -18,7 +19,7 @@ returns c =
 double-refusal-requires : tie.Need-double-refusal-requires
 double-refusal-requires c κs =
     let a = c .before .before .before .before .args in
-    test-bound (a .bound) (a .doubles .now) (a .samples) (c .before .size-refusal .ensures) (c .before .before .outside .ensures) (c .if1 .left)
+    omega (arith, test-bound (a .bound) (a .doubles .now) (a .samples) (c .before .size-refusal .ensures) (c .before .before .outside .ensures) (c .if1 .left))
 
 returns-2 : tie.Need-returns-2
 returns-2 c =

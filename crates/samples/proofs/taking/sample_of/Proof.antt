@@ -6,20 +6,21 @@ use borrow.Author.Tests.{not-true, not-false}
 use lib.Ieee.{ofBits, ne}
 use lib.Ieee.Casts.{toSigned-in}
 use mir.Facts.{toZ-ofZ}
+use Rattle.meaning.specs.Limits.{maxBound}
 use Rattle.theory.specs.Doubles.{zero-cut, taken-casts}
 use Rattle.samples.proofs.taking.sample_of.Statement.{statement}
 use Rattle.samples.proofs.taking.sample_of.Tie as tie
 
 float-to-int-result : tie.Need-float-to-int-result
 unfolding ofBits ne
-float-to-int-result c = taken-casts _ (omega arith) _ (c .before .before .pre) (not-true _ (c .before .if1 .taken))
+float-to-int-result c = taken-casts maxBound (omega arith) _ (c .before .before .pre) 31 (omega arith) (not-true _ (c .before .if1 .taken))
 
 returns : tie.Need-returns
 returns c = toZ-ofZ (sfits-of (toSigned-in 31 (c .before .before .args .x)))
 
 returns-2 : tie.Need-returns-2
 unfolding ofBits ne
-returns-2 c = sym (zero-cut (c .before .args .x) (not-false _ (c .if1 .left)))
+returns-2 c = sym (zero-cut 31 (omega arith) (c .before .args .x) (not-false _ (c .if1 .left)))
 
 pub sample-of-spec : {M : Type 1} → statement M
 sample-of-spec = tie.close (tie.spec float-to-int-result returns returns-2)

@@ -10,8 +10,8 @@ use lib.Ieee.{Float, nan}
 use Rattle.meaning.specs.Values as meant
 use Rattle.theory.specs.Tally.{tally, tally-none, tally-passed, tally-bad, tally-all}
 use Rattle.plan.specs.Structs.{checkedAnswer}
-use Rattle.samples.proofs.taking.double_refusal.Statement.{statement}
-use Rattle.samples.proofs.taking.double_refusal.Tie as tie
+use Rattle.samples.proofs.inner.double_refusal.Statement.{statement}
+use Rattle.samples.proofs.inner.double_refusal.Tie as tie
 
 abbrev bad : ℕ → List Float → ℕ → Bool
 bad bound doubles i = not (meant.takes bound (getD doubles i nan))

@@ -12,8 +12,8 @@ use mir.Val.{toZ, ofZ}
 use mir.Facts.{toZ-ofZ}
 use Rattle.theory.specs.Values.{whole-held}
 use Rattle.theory.specs.Doubles.{low-untaken, high-untaken, large-untaken, cut-taken}
-use Rattle.samples.proofs.taking.takes.Statement.{statement}
-use Rattle.samples.proofs.taking.takes.Tie as tie
+use Rattle.samples.proofs.inner.takes.Statement.{statement}
+use Rattle.samples.proofs.inner.takes.Tie as tie
 
 returns : tie.Need-returns
 unfolding ofBits neg

@@ -1,0 +1,2 @@
+// What a host's doubles are taken as.
+pub mod inner;
