@@ -68,7 +68,7 @@ function specNames(path) {
 // Names of code. `within` is the type whose impl or enum they stand in.
 
 const TYPE = /^(?:pub(?:\(crate\))? )?(impl|enum|struct) (\w+) \{$/;
-const ITEM = /^ *(pub(?:\(crate\))? )?(fn|const|struct|enum|mod) (\w+)/;
+const ITEM = /^ *(pub(?:\(crate\))? )?(?:extern "C" )?(fn|const|struct|enum|mod) (\w+)/;
 const CASE_OR_FIELD = /^ {4}(pub )?(\w+)(?:[,(]|: )/;
 
 function codeNames(path) {

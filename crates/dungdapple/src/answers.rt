@@ -16,11 +16,11 @@ pub(crate) fn told(answer: Answer, place: &mut u32) -> u32
 }
 
 // Of one that does.
-pub(crate) fn checked(answer: Checked, place: &mut u32, bad: &mut u32) -> u32
-    requires { ⌜ Narrow (checkedAnswer answer) ⌝ }
-    ensures { λ r. ⌜ said r (now (place .exit)) (now (bad .exit)) ≡ checkedAnswer answer ⌝ }
+pub(crate) fn checked(tested: Checked, place: &mut u32, bad: &mut u32) -> u32
+    requires { ⌜ Narrow (checkedAnswer tested) ⌝ }
+    ensures { λ r. ⌜ said r (now (place .exit)) (now (bad .exit)) ≡ checkedAnswer tested ⌝ }
 {
-    *place = answer.position as u32;
-    *bad = answer.bad as u32;
-    answer.number as u32
+    *place = tested.position as u32;
+    *bad = tested.bad as u32;
+    tested.number as u32
 }

@@ -8,7 +8,7 @@ ghost use Rattle.meaning.specs.Extension.{fold};
 ghost use Rattle.meaning.specs.Smoothing.{listOf};
 ghost use Rattle.meaning.specs.Refusals.{planDivisor, planReach};
 ghost use Rattle.meaning.specs.Calls as C;
-ghost use Rattle.meaning.specs.Values as out;
+ghost use Rattle.meaning.specs.Values as meant;
 ghost use Rattle.meaning.specs.Exact as exactly;
 ghost use Rattle.meaning.specs.Carry as carrying;
 ghost use Rattle.meaning.specs.Planner.{planFor};
@@ -184,7 +184,7 @@ pub extern "C" fn dungdapple_doubles_in(
     place: &mut u32,
     bad: &mut u32,
 ) -> u32
-    ensures { λ r. ⌜ conversion.Gives (out.doublesIn (countOf bound) (now (doubles .entry)) (now (samples .entry))) (said r (now (place .exit)) (now (bad .exit))) (now (samples .exit)) ⌝ }
+    ensures { λ r. ⌜ conversion.Gives (meant.doublesIn (countOf bound) (now (doubles .entry)) (now (samples .entry))) (said r (now (place .exit)) (now (bad .exit))) (now (samples .exit)) ⌝ }
 {
     let most = arguments::inner::count(bound);
     let answer = samples::doubles_in(most, doubles, samples);
@@ -201,7 +201,7 @@ pub extern "C" fn dungdapple_whole_series(
     cells: &mut [i32],
     place: &mut u32,
 ) -> u32
-    ensures { λ r. ⌜ conversion.Gives (out.wholeSeriesBy (stagesIn (now (plan .entry))) (countOf bound) (countOf mode) (now (results .entry)) (now (cells .entry))) (said r (now (place .exit)) 0) (now (cells .exit)) ⌝ }
+    ensures { λ r. ⌜ conversion.Gives (meant.wholeSeriesBy (stagesIn (now (plan .entry))) (countOf bound) (countOf mode) (now (results .entry)) (now (cells .entry))) (said r (now (place .exit)) 0) (now (cells .exit)) ⌝ }
 {
     let numbers = arguments::inner::plan(plan);
     let most = arguments::inner::count(bound);
@@ -222,7 +222,7 @@ pub extern "C" fn dungdapple_whole_picture(
     cells: &mut [i32],
     place: &mut u32,
 ) -> u32
-    ensures { λ r. ⌜ conversion.Gives (out.wholePictureBy (stagesIn (now (across .entry))) (stagesIn (now (down .entry))) (countOf bound) (countOf width) (countOf height) (countOf mode) (now (results .entry)) (now (cells .entry))) (said r (now (place .exit)) 0) (now (cells .exit)) ⌝ }
+    ensures { λ r. ⌜ conversion.Gives (meant.wholePictureBy (stagesIn (now (across .entry))) (stagesIn (now (down .entry))) (countOf bound) (countOf width) (countOf height) (countOf mode) (now (results .entry)) (now (cells .entry))) (said r (now (place .exit)) 0) (now (cells .exit)) ⌝ }
 {
     let rows = arguments::inner::plan(across);
     let columns = arguments::inner::plan(down);
@@ -276,11 +276,11 @@ pub extern "C" fn dungdapple_carry_picture(
     let most = arguments::inner::count(bound);
     let wide = arguments::inner::count(width);
     let high = arguments::inner::count(height);
-    let carried = carry::carry_picture(rows, columns, most, wide, high, results, cells);
-    *carry = carried.carry as f64;
+    let run = carry::carry_picture(rows, columns, most, wide, high, results, cells);
+    *carry = run.carry as f64;
     let answer = Answer {
-        number: carried.number,
-        position: carried.position,
+        number: run.number,
+        position: run.position,
     };
     answers::told(answer, place)
 }
@@ -294,7 +294,7 @@ pub extern "C" fn dungdapple_doubles_series(
     cells: &mut [f64],
     place: &mut u32,
 ) -> u32
-    ensures { λ r. ⌜ conversion.Gives (out.doublesSeries (stagesIn (now (plan .entry))) (countOf bound) (now (results .entry)) (now (cells .entry))) (said r (now (place .exit)) 0) (now (cells .exit)) ⌝ }
+    ensures { λ r. ⌜ conversion.Gives (meant.doublesSeries (stagesIn (now (plan .entry))) (countOf bound) (now (results .entry)) (now (cells .entry))) (said r (now (place .exit)) 0) (now (cells .exit)) ⌝ }
 {
     let numbers = arguments::inner::plan(plan);
     let most = arguments::inner::count(bound);
@@ -313,7 +313,7 @@ pub extern "C" fn dungdapple_doubles_picture(
     cells: &mut [f64],
     place: &mut u32,
 ) -> u32
-    ensures { λ r. ⌜ conversion.Gives (out.doublesPicture (stagesIn (now (across .entry))) (stagesIn (now (down .entry))) (countOf bound) (countOf width) (countOf height) (now (results .entry)) (now (cells .entry))) (said r (now (place .exit)) 0) (now (cells .exit)) ⌝ }
+    ensures { λ r. ⌜ conversion.Gives (meant.doublesPicture (stagesIn (now (across .entry))) (stagesIn (now (down .entry))) (countOf bound) (countOf width) (countOf height) (now (results .entry)) (now (cells .entry))) (said r (now (place .exit)) 0) (now (cells .exit)) ⌝ }
 {
     let rows = arguments::inner::plan(across);
     let columns = arguments::inner::plan(down);
@@ -336,7 +336,7 @@ pub extern "C" fn dungdapple_summary_series(
     lowest_at: &mut u32,
     highest_at: &mut u32,
 ) -> u32
-    ensures { λ r. ⌜ record { answer = said r (now (place .exit)) 0; lowest = now (lowest .exit); highest = now (highest .exit); lowestAt = now («lowest_at» .exit); highestAt = now («highest_at» .exit) } ≡ out.summarySeries (stagesIn (now (plan .entry))) (countOf bound) (now (results .entry)) ⌝ }
+    ensures { λ r. ⌜ record { answer = said r (now (place .exit)) 0; lowest = now (lowest .exit); highest = now (highest .exit); lowestAt = now («lowest_at» .exit); highestAt = now («highest_at» .exit) } ≡ meant.summarySeries (stagesIn (now (plan .entry))) (countOf bound) (now (results .entry)) ⌝ }
 {
     let numbers = arguments::inner::plan(plan);
     let most = arguments::inner::count(bound);
@@ -366,7 +366,7 @@ pub extern "C" fn dungdapple_summary_picture(
     lowest_at: &mut u32,
     highest_at: &mut u32,
 ) -> u32
-    ensures { λ r. ⌜ record { answer = said r (now (place .exit)) 0; lowest = now (lowest .exit); highest = now (highest .exit); lowestAt = now («lowest_at» .exit); highestAt = now («highest_at» .exit) } ≡ out.summaryPicture (stagesIn (now (across .entry))) (stagesIn (now (down .entry))) (countOf bound) (countOf width) (countOf height) (now (results .entry)) ⌝ }
+    ensures { λ r. ⌜ record { answer = said r (now (place .exit)) 0; lowest = now (lowest .exit); highest = now (highest .exit); lowestAt = now («lowest_at» .exit); highestAt = now («highest_at» .exit) } ≡ meant.summaryPicture (stagesIn (now (across .entry))) (stagesIn (now (down .entry))) (countOf bound) (countOf width) (countOf height) (now (results .entry)) ⌝ }
 {
     let rows = arguments::inner::plan(across);
     let columns = arguments::inner::plan(down);
