@@ -15,6 +15,11 @@
 --   Planner        the planner
 --   Plans          a plan's constructor, divisor and reach
 --   Records        the job record's reader and writer, and that each undoes the other
+--   Exact          results as doubles that are the same numbers, and back
+--   Hosts          the calls that other languages have: any of them
+--   HostSmoothing  smoothing, an edit and a point, as such calls
+--   HostOutputs    values in and out, as such calls
+--   HostRecords    the planner, a plan's divisor and reach, and the job record, as such calls
 --   UselessBuilds  that no contract allows any of document 01's useless builds
 pub mod Smoothings
 pub mod SmoothSeries
@@ -32,4 +37,9 @@ pub mod Summaries
 pub mod Planner
 pub mod Plans
 pub mod Records
+pub mod Exact
+pub mod Hosts
+pub mod HostSmoothing
+pub mod HostOutputs
+pub mod HostRecords
 pub mod UselessBuilds

@@ -2,14 +2,14 @@
 -- Laws: whole-is, whole-not (by whether the double is taken), whole-itself, whole-other (by whether it is a whole number so small), whole-back, count-back (such a number, given as a double, is taken as itself), whole-zero (minus zero is 0);
 -- count-negative, count-from, count-below (of a negative number, and of any other); whole-size, count-size (nothing larger comes of a double);
 -- plan-numbers, plan-other (of four doubles, and of another number of them);
--- refused-passes, refused-radius, refused-inner, refused-edge, refused-bound, refused-side, refused-position, refused-value, refused-sigma, refused-mode (each row applies to it).
+-- refused-by-passes, refused-by-radius, refused-by-inner, refused-by-edge, refused-by-bound, refused-by-side, refused-by-position, refused-by-value, refused-by-sigma, refused-by-mode (each row applies to it).
 use Prim.Native.Nat.{ℕ, _^_, _≤_, _<_}
 use mathlib.Core.Path.{_≡_, refl, sym, ap, _∙_}
 use mathlib.Core.Bool.{Bool, true, false, cond, true≢false}
 use mathlib.Core.List.{List}
 use mathlib.Mathlib.Data.Bool.Basic.{eq-false-of-not-eq-true}
 use native.Mathlib.Omega.{arith}
-use native.Mathlib.Nat.{le-refl}
+use native.Mathlib.Nat.{le-refl, zero-mul}
 use borrow.Author.Tests.{lt-ltb, le-leb, le-ltb, ltb-true, eq-eqb, ne-eqb}
 use lib.Dec.{leb, ltb}
 use lib.ListN.{length, getD}
@@ -49,8 +49,8 @@ module _ (x : Float) where
 pub whole-back : (z : ℤ) → natAbs z ≤ maxResult → wholeOf (ofInt binary64 z) ≡ z
 whole-back z l = let (t, e) = back-taken maxResult (le-refl maxResult) 63 (omega arith) z l in whole-is _ t ∙ e
 
-pub whole-zero : (e : ℤ) → takes maxResult (fin true 0 e) ≡ true → wholeOf (fin true 0 e) ≡ pos 0
-whole-zero e t = whole-is _ t ∙ minus-zero 63 (omega arith) e
+pub whole-zero : (e : ℤ) → wholeOf (fin true 0 e) ≡ pos 0
+whole-zero e = whole-itself _ (record { negative = true; size = 0; most = omega arith; is = (refl, simp zero-mul) }) ∙ minus-zero 63 (omega arith) e
 
 -- ---- a number from 0 on
 pub count-negative : (z : ℤ) → ltZ z (pos 0) ≡ true → unsigned z ≡ refused
@@ -90,32 +90,32 @@ unfolding planIn
 plan-numbers xs h = rw (eq-eqb (length xs) 4 h)
 
 -- ---- every limit refuses that number
-pub refused-passes : outside least maxPasses refused ≡ true
-refused-passes = refl
+pub refused-by-passes : outside least maxPasses refused ≡ true
+refused-by-passes = refl
 
-pub refused-radius : ltb maxRadius refused ≡ true
-refused-radius = refl
+pub refused-by-radius : ltb maxRadius refused ≡ true
+refused-by-radius = refl
 
-pub refused-inner : outside least maxInner refused ≡ true
-refused-inner = refl
+pub refused-by-inner : outside least maxInner refused ≡ true
+refused-by-inner = refl
 
-pub refused-edge : (b : ℕ) → b ≤ maxInner → leb b refused ≡ true
-refused-edge b l = le-leb b refused (omega arith)
+pub refused-by-edge : (b : ℕ) → b ≤ maxInner → leb b refused ≡ true
+refused-by-edge b l = le-leb b refused (omega arith)
 
-pub refused-bound : outside least maxBound refused ≡ true
-refused-bound = refl
+pub refused-by-bound : outside least maxBound refused ≡ true
+refused-by-bound = refl
 
-pub refused-side : outside least maxSide refused ≡ true
-refused-side = refl
+pub refused-by-side : outside least maxSide refused ≡ true
+refused-by-side = refl
 
-pub refused-position : (N : ℕ) → N ≤ maxLength → leb N refused ≡ true
-refused-position N l = le-leb N refused (omega arith)
+pub refused-by-position : (N : ℕ) → N ≤ maxLength → leb N refused ≡ true
+refused-by-position N l = le-leb N refused (omega arith)
 
-pub refused-value : (M : ℕ) → M ≤ maxBound → above M (pos refused) ≡ true
-refused-value M l = lt-ltb M refused (omega arith)
+pub refused-by-value : (M : ℕ) → M ≤ maxBound → above M (pos refused) ≡ true
+refused-by-value M l = lt-ltb M refused (omega arith)
 
-pub refused-sigma : outside least maxSigma refused ≡ true
-refused-sigma = refl
+pub refused-by-sigma : outside least maxSigma refused ≡ true
+refused-by-sigma = refl
 
-pub refused-mode : ltb maxMode refused ≡ true
-refused-mode = refl
+pub refused-by-mode : ltb maxMode refused ≡ true
+refused-by-mode = refl
