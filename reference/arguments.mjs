@@ -1,5 +1,5 @@
 // The numbers of a call as a host gives them: all are doubles, and a plan is a list of four. What they are taken as,
-// the writer of a record as a host calls it, and tables of both with what is expected, for every host's test.
+// the writer of a record as a host calls it, and tables of both with what is expected, for hosts' tests.
 // The expected numbers stand in the tables; none is computed.
 import { writeRecord } from './record.mjs';
 

@@ -194,7 +194,7 @@ uint32_t dungdapple_smooth_picture(
 
 /*
 ** Sets the sample at the position to the value, and gives each result within reach of it what it gains. Results
-** that were the samples' smoothing are so again. The cost goes by the reach of the plan, not by the series' length.
+** that were the samples' smoothing are so again. Nothing beyond the reach of the plan is read or written.
 ** results: as many cells as samples.
 ** count: how many results changed; 0 where the sample had this value.
 ** Refuses by 1 to 10; by DUNGDAPPLE_SAMPLE where the sample that is replaced has a size above the bound; and by

@@ -13,8 +13,9 @@ const NUMBERS = {
   8: ['length', 'a slice is not of the length that the call asks'],
   9: ['position', 'the position must be a whole number from 0 to the number of samples less 1'],
   10: ['value', 'the new value must be a whole number of a size at most the bound'],
-  11: ['sample', 'a sample is not a whole number of a size at most the bound'],
-  12: ['result', 'a result has, or would get, a size above the bound times the divisor'],
+  11: ['sample', 'a sample is not a whole number of a size at most the bound, or a double to become a result not '
+    + 'one of a size at most 9007199254740991'],
+  12: ['result', 'a result has, or would get, a size above the bound times the divisor, or above 9007199254740991'],
   13: ['sigma', 'the standard deviation must be a whole number of hundredths from 1 to 25600'],
   14: ['record', 'the bytes are not a well-formed job record'],
   21: ['mode', 'the mode must be 0, a half to the even neighbour, or 1, a half upward'],

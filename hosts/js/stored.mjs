@@ -1,5 +1,4 @@
-// Series that stay in the module's memory, samples and results, so that an edit copies nothing and costs by reach
-// alone.
+// Series that stay in the module's memory, samples and results, so that an edit copies nothing.
 import { numberOf } from './arguments.mjs';
 import { ofSeries, reachOf, rowsWithin, smoothed } from './calls.mjs';
 import { lendPlan, resultsAt, samplesAt, wholeAnswered } from './lending.mjs';

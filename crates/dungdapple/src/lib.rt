@@ -210,6 +210,7 @@ pub extern "C" fn dungdapple_whole_series(
     answers::told(answer, place)
 }
 
+// The same of a picture, over the product of both divisors.
 #[no_mangle]
 pub extern "C" fn dungdapple_whole_picture(
     across: &[f64],
@@ -257,6 +258,7 @@ pub extern "C" fn dungdapple_carry_series(
     answers::told(answer, place)
 }
 
+// The same of a picture, over the product of both divisors.
 #[no_mangle]
 pub extern "C" fn dungdapple_carry_picture(
     across: &[f64],
@@ -302,6 +304,7 @@ pub extern "C" fn dungdapple_doubles_series(
     answers::told(answer, place)
 }
 
+// The same of a picture, over the product of both divisors.
 #[no_mangle]
 pub extern "C" fn dungdapple_doubles_picture(
     across: &[f64],
@@ -352,6 +355,7 @@ pub extern "C" fn dungdapple_summary_series(
     answers::told(answer, place)
 }
 
+// The same of a picture, over the product of both divisors.
 #[no_mangle]
 pub extern "C" fn dungdapple_summary_picture(
     across: &[f64],

@@ -1,4 +1,4 @@
--- What a host's doubles are taken as: a procedure of a database holds no other numbers.
+-- What a host's doubles are taken as. Every number that it gives is one, as a query engine holds them.
 --   refused      2^53, which no limit allows
 --   wholeOf x    the whole number that the double x is, where its size is at most 2^53 - 1; of every other double, refused. Minus zero is 0
 --   unsigned z   z, but of a negative number refused

@@ -1,16 +1,16 @@
 -- Document 01's examples as one table under one theorem, the marked ones first; document 02's; and more. Plans are (r, b, a, K).
 --   Example         a call's inputs, and last what must come out
---   Holds e         that is the call's whole outcome, the content of every slice with it; of `divided`, `reached` and `bounded`, the divisor, the reach, and rows 1 to 8
+--   Holds e         that is the call's whole outcome, the content of every slice with it; of `divided`, `reached` and `bounded`, the divisor, the reach, and rows 1 to 8; of `argument` and `lent` what doubles are taken as, of `written` the answer
 --   examples-hold   every row of the table holds
 use Prim.Native.Nat.{ℕ}
 use Prim.Native.String.{String}
 use mathlib.Core.Path.{_≡_, refl}
 use mathlib.Core.Bool.{true, false}
 use mathlib.Core.List.{List, [], _∷_, _++_, map}
-use lib.ListN.{set}
+use lib.ListN.{set, replicate}
 use lib.IntN.{ℤ, pos, negsuc, negℤ}
 use lib.Count.{trailingZeros}
-use lib.Ieee.{Float, fin, ofInt, div, toSigned, round, size, units, odd, span, climb}
+use lib.Ieee.{Float, nan, inf, fin, ofInt, div, toSigned, round, size, units, odd, span, climb}
 use Rattle.algebra.specs.Within.{sumWithin}
 use Rattle.meaning.specs.Extension.{emod, reflect, fold, ext}
 use Rattle.meaning.specs.Kernel.{Stage, plan, tap, passAt, kernel, width, reach, tapSum, divisor}
@@ -19,11 +19,14 @@ use Rattle.meaning.specs.Picture.{pixel, grid, picture}
 use Rattle.meaning.specs.Refusals.{Answer, firstOf, firstWhere, countWhere, rowAt, some, planRows, sizeRows, commonRows, seriesOf, ifDone, zeros, ownRows, planDivisor, planReach}
 use Rattle.meaning.specs.Values.{nearest, even, nearestEven, ratio, plusZero, takes, doubleRows, doublesIn, outputRows, converted, modeRows, unbeaten, summary, wholeSeries, wholeSeriesBy, wholePicture, wholePictureBy, summarySeries}
 use Rattle.meaning.specs.Carry.{carry, carryCell, carried, carrySeries, carryPicture}
+use Rattle.meaning.specs.Exact.{lengthRows, exactRows, resultsToDoubles, backRows, doublesToResults}
 use Rattle.meaning.specs.Calls.{smoothRows, smoothed, smoothSeries, smoothPicture, gained, editRows, changed, editSeries, pointRows, point}
 use Rattle.meaning.specs.Planner.{largest, radiusFor, nearestDown, edgeFor, widened, stageFor, plannerRows, planFor}
 use Rattle.meaning.specs.Encoding.{bytes, number, text, digits, decimal}
-use Rattle.meaning.specs.Record.{sampleAt, stretch, samplesOf, begins, reading, readRecord}
+use Rattle.meaning.specs.Record.{field, sampleBytes, sampleAt, recordOf, stretch, samplesOf, begins, reading, readRecord}
 use Rattle.meaning.specs.Program.{firstLine, resultLines, report, program}
+use Rattle.meaning.specs.Arguments.{wholeOf, unsigned, countOf, planIn}
+use Rattle.meaning.specs.HostRecord.{fieldRows, writeRecordIn}
 
 data Example : Type 0 where
   -- plan, samples; results
@@ -72,6 +75,16 @@ data Example : Type 0 where
   bounded : List Stage → ℕ → ℕ → Example
   -- the job's bytes; what the program prints
   job : List ℕ → String → Example
+  -- a host's double; the whole number, and the number from 0 on, that it is taken as
+  argument : Float → ℤ → ℕ → Example
+  -- a host's doubles; radius, inner weight, edge weight and passes that they are taken as
+  lent : List Float → ℕ → ℕ → ℕ → ℕ → Example
+  -- results, cells; number, position, cells afterwards
+  exact : List ℤ → List Float → ℕ → ℕ → List Float → Example
+  -- doubles, results; number, position, bad samples, results afterwards
+  back : List Float → List ℤ → ℕ → ℕ → ℕ → List ℤ → Example
+  -- radius, inner weight, edge weight, passes, bound, samples, bytes lent; number
+  written : ℕ → ℕ → ℕ → ℕ → ℕ → List ℤ → ℕ → ℕ → Example
 
 abbrev answer : ℕ → ℕ → ℕ → Answer
 answer n p k = record { number = n; position = p; bad = k }
@@ -104,12 +117,28 @@ Holds (divided ss d) = planDivisor ss ≡ d
 Holds (reached ss n) = planReach ss ≡ n
 Holds (bounded ss M n) = firstOf (commonRows (seriesOf ss 1) M false) ≡ answer n 0 0
 Holds (job s t) = program s ≡ text t
+Holds (argument x z n) = _≡_ {A = ℤ × ℕ} (wholeOf x, countOf x) (z, n)
+Holds (lent xs r b a K) = planIn xs ≡ record { radius = r; inner = b; edge = a; passes = K }
+Holds (exact r cells n p c) = resultsToDoubles r cells ≡ record { answer = answer n p 0; cells = c }
+Holds (back xs r n p k s) = doublesToResults xs r ≡ record { answer = answer n p k; cells = s }
+Holds (written r b a K M f room n) = writeRecordIn (record { radius = r; inner = b; edge = a; passes = K }) M f (replicate room 7) .answer ≡ answer n 0 0
 
 abbrev plus : List ℕ → List ℤ
 plus = map pos
 
 abbrev minus : List ℕ → List ℤ
 minus = map (λ n. negℤ (pos n))
+
+-- a double that is the whole number n, and one that is half of it
+abbrev double : ℕ → Float
+double n = fin false n (pos 0)
+
+abbrev half : ℕ → Float
+half n = fin false n (negsuc 0)
+
+-- what is taken in place of a double that is refused
+abbrev beyond : ℕ
+beyond = 9007199254740992
 
 examples : List Example
 examples =
@@ -183,6 +212,29 @@ examples =
     ∷ unedited (plan 1 1 0 1) (plus (10 ∷ 10 ∷ 10 ∷ [])) 1 (pos 9) 11 1 1
     ∷ unedited (plan 1 1 0 1) (plus (10 ∷ 10 ∷ 10 ∷ [])) 1 (pos 10) 10 0 0
     ∷ unpointed (plan 1 1 0 1) (plus (10 ∷ 0 ∷ 10 ∷ 0 ∷ 10 ∷ 10 ∷ [])) 3 11 2 2
+    ∷ argument (half 3) (pos beyond) beyond
+    ∷ argument (fin true 1 (pos 0)) (negsuc 0) beyond
+    ∷ argument (fin true 0 (pos 0)) (pos 0) 0
+    ∷ argument (double 9007199254740991) (pos 9007199254740991) 9007199254740991
+    ∷ argument (fin false 1 (pos 53)) (pos beyond) beyond
+    ∷ argument nan (pos beyond) beyond
+    ∷ argument (inf true) (pos beyond) beyond
+    ∷ lent (double 1 ∷ double 2 ∷ double 0 ∷ double 3 ∷ []) 1 2 0 3
+    ∷ lent (double 1 ∷ half 3 ∷ double 0 ∷ fin true 1 (pos 0) ∷ []) 1 beyond 0 beyond
+    ∷ lent (double 1 ∷ double 2 ∷ double 0 ∷ double 3 ∷ double 4 ∷ []) beyond beyond beyond beyond
+    ∷ exact (pos 65537 ∷ negsuc 8 ∷ []) (nan ∷ nan ∷ []) 0 0 (double 65537 ∷ fin true 9 (pos 0) ∷ [])
+    ∷ exact (pos 9007199254740991 ∷ negsuc 9007199254740991 ∷ []) (nan ∷ nan ∷ []) 12 1 (nan ∷ nan ∷ [])
+    ∷ exact (pos 9007199254740992 ∷ []) [] 8 0 []
+    ∷ back (fin true 0 (pos 0) ∷ double 65537 ∷ []) (plus (7 ∷ 7 ∷ [])) 0 0 0 (plus (0 ∷ 65537 ∷ []))
+    ∷ back (double 3 ∷ half 3 ∷ nan ∷ []) (plus (7 ∷ 7 ∷ 7 ∷ [])) 11 1 2 (plus (7 ∷ 7 ∷ 7 ∷ []))
+    ∷ back [] (plus (7 ∷ [])) 7 0 0 (plus (7 ∷ []))
+    ∷ written 300 255 255 0 4294967295 (plus (7 ∷ [])) 31 0
+    ∷ written beyond beyond beyond 256 beyond [] 0 1
+    ∷ written 65536 256 256 1 4294967296 [] 0 2
+    ∷ written 0 256 256 1 4294967296 [] 0 3
+    ∷ written 0 0 256 1 4294967296 [] 0 4
+    ∷ written 0 0 0 1 4294967296 [] 0 5
+    ∷ written 0 0 0 1 0 [] 0 7
     ∷ []
 
 infixr 5 _and_
@@ -193,8 +245,9 @@ data Every : List Example → Type 0 where
 examples-hold : Every examples
 unfolding examples sumWithin emod reflect fold ext tap passAt kernel width reach tapSum divisor listOf convolved result results weight near pixel grid picture
     firstOf firstWhere countWhere rowAt some planRows sizeRows ifDone ownRows planDivisor planReach nearest even nearestEven ratio takes doubleRows doublesIn unbeaten summary ofInt div toSigned round size units odd span climb trailingZeros outputRows converted modeRows carry carryCell carried smoothRows smoothed gained editRows changed editSeries pointRows point
-    largest radiusFor nearestDown edgeFor widened stageFor plannerRows planFor bytes number text digits decimal sampleAt stretch samplesOf begins reading readRecord firstLine resultLines report program
+    largest radiusFor nearestDown edgeFor widened stageFor plannerRows planFor bytes number text digits decimal sampleAt stretch samplesOf begins reading readRecord firstLine resultLines report program lengthRows exactRows resultsToDoubles backRows doublesToResults wholeOf unsigned countOf planIn field sampleBytes recordOf fieldRows writeRecordIn
 examples-hold =
     refl and refl and refl and refl and refl and refl and refl
     and refl and refl and refl and refl and refl
-    and refl and refl and refl and refl and refl and refl and refl and refl and refl and refl and refl and refl and refl and refl and refl and refl and refl and refl and refl and refl and refl and refl and refl and refl and refl and refl and refl and refl and refl and refl and refl and refl and refl and refl and refl and refl and refl and refl and refl and refl and refl and refl and refl and refl and refl and refl and refl and refl and none
+    and refl and refl and refl and refl and refl and refl and refl and refl and refl and refl and refl and refl and refl and refl and refl and refl and refl and refl and refl and refl and refl and refl and refl and refl and refl and refl and refl and refl and refl and refl and refl and refl and refl and refl and refl and refl and refl and refl and refl and refl and refl and refl and refl and refl and refl and refl and refl and refl
+    and refl and refl and refl and refl and refl and refl and refl and refl and refl and refl and refl and refl and refl and refl and refl and refl and refl and refl and refl and refl and refl and refl and refl and none

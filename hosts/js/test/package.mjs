@@ -1,4 +1,4 @@
-// The package: as it is installed, several copies of it at once, its types, and the examples of its README.
+// The package: as it is installed, several copies of it at once, its types, its sentences, and its README's example.
 import { cpSync, mkdirSync, mkdtempSync, readFileSync, rmSync, writeFileSync } from 'node:fs';
 import { tmpdir } from 'node:os';
 import { join } from 'node:path';
@@ -53,6 +53,23 @@ async function packageFacts() {
   same('package: no dependencies', [MANIFEST.dependencies, MANIFEST.peerDependencies], [undefined, undefined]);
 }
 
+// The sentences are those of the C header, but for a plan, which here is always four numbers; its macros and their
+// limits are compared with the independent program's by the C host's test.
+function sentenceFacts() {
+  const header = readFileSync(new URL('../c/dungdapple.h', PACKAGE), 'utf8');
+  const macros = header.matchAll(/^#define DUNGDAPPLE_(\w+) +(\d+) /gm);
+  const numbers = new Map(Array.from(macros, ([, name, number]) => [name, number]));
+  const cases = Array.from(header.matchAll(/case DUNGDAPPLE_(\w+):\s+return ((?:"[^"]*"\s*)+);/g));
+  holds('sentences: of every number', cases.length >= 16);
+  for (const [, name, strings] of cases) {
+    const sentence = Array.from(strings.matchAll(/"([^"]*)"/g), ([, part]) => part).join('');
+    const told = dungdapple.explain(Number(numbers.get(name)));
+    same(`sentences: name of ${name}`, told.name, name.toLowerCase());
+    const alike = name === 'PASSES' ? sentence.startsWith(told.sentence) : sentence === told.sentence;
+    holds(`sentences: ${name}`, alike);
+  }
+}
+
 // The example, with names for what it does not name.
 async function readmeFacts() {
   const [, example] = textOf('README.md').match(/```js\n(.*?)```/s);
@@ -72,5 +89,6 @@ async function readmeFacts() {
 
 await copyFacts();
 await packageFacts();
+sentenceFacts();
 await readmeFacts();
 tell();
