@@ -2,9 +2,9 @@
 use mathlib.Core.Path.{refl}
 use borrow.Author.Needs.{needs}
 use Rattle.meaning.specs.Carry.{carryPicture}
-use Rattle.plan.specs.Structs.{stagesOf}
 use Rattle.meaning.specs.Refusals.{pictureOf}
 use Rattle.theory.specs.Narrow.{picture-cells, narrow-carried}
+use Rattle.plan.specs.Structs.{stagesOf}
 use Rattle.dungdapple.specs.Held.{carry-picture-held}
 use Rattle.dungdapple.specs.Same.{same₅, stages-taken, narrow-as, carried-as}
 use Rattle.dungdapple.proofs.dungdapple_carry_picture.Statement.{statement}
@@ -38,7 +38,11 @@ told-requires : tie.Need-told-requires
 told-requires c κs =
     let s = c .before .before .before in
     let a = s .before .before .before .before .before .before .before .before .before .args in
-    narrow-as (s .carry-picture .ensures .answer) (narrow-carried (pictureOf (stagesOf (s .before .before .before .before .before .before .plan .result)) (stagesOf (s .before .before .before .before .before .plan2 .result)) (s .before .before .before .count2 .result) (s .before .before .count3 .result)) (picture-cells (stagesOf (s .before .before .before .before .before .before .plan .result)) (stagesOf (s .before .before .before .before .before .plan2 .result)) (s .before .before .before .count2 .result) (s .before .before .count3 .result)) (s .before .before .before .before .count .result) (a .results .now) (a .cells .now))
+    let hs = stagesOf (s .before .before .before .before .before .before .plan .result) in
+    let vs = stagesOf (s .before .before .before .before .before .plan2 .result) in
+    let W = s .before .before .before .count2 .result in
+    let H = s .before .before .count3 .result in
+    narrow-as (s .carry-picture .ensures .answer) (narrow-carried (pictureOf hs vs W H) (picture-cells hs vs W H) (s .before .before .before .before .count .result) (a .results .now) (a .cells .now))
 
 same-length : tie.Need-same-length
 same-length c = search needs

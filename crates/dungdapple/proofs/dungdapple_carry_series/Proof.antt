@@ -1,11 +1,11 @@
 -- The numbers that were taken, the call, and its answer told.
 use mathlib.Core.Path.{refl}
 use borrow.Author.Needs.{needs}
-use Rattle.meaning.specs.Carry.{carrySeries}
-use Rattle.plan.specs.Structs.{stagesOf}
 use lib.ListN.{length}
+use Rattle.meaning.specs.Carry.{carrySeries}
 use Rattle.meaning.specs.Refusals.{seriesOf}
 use Rattle.theory.specs.Narrow.{series-cells, narrow-carried}
+use Rattle.plan.specs.Structs.{stagesOf}
 use Rattle.dungdapple.specs.Held.{carry-series-held}
 use Rattle.dungdapple.specs.Same.{same₂, stages-taken, narrow-as, carried-as}
 use Rattle.dungdapple.proofs.dungdapple_carry_series.Statement.{statement}
@@ -30,7 +30,8 @@ told-requires : tie.Need-told-requires
 told-requires c κs =
     let s = c .before .before .before in
     let a = s .before .before .before .before .before .args in
-    narrow-as (s .carry-series .ensures .answer) (narrow-carried (seriesOf (stagesOf (s .before .before .before .plan .result)) (length (a .results .now))) (series-cells (stagesOf (s .before .before .before .plan .result)) (length (a .results .now))) (s .before .before .count .result) (a .results .now) (a .cells .now))
+    let ss = stagesOf (s .before .before .before .plan .result) in
+    narrow-as (s .carry-series .ensures .answer) (narrow-carried (seriesOf ss (length (a .results .now))) (series-cells ss (length (a .results .now))) (s .before .before .count .result) (a .results .now) (a .cells .now))
 
 same-length : tie.Need-same-length
 same-length c = search needs

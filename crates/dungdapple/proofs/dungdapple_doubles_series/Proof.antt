@@ -1,10 +1,10 @@
 -- The numbers that were taken, the call, and its answer told.
 use borrow.Author.Needs.{needs}
-use Rattle.meaning.specs.Values.{doublesSeries, ratio}
-use Rattle.plan.specs.Structs.{stagesOf}
 use lib.ListN.{length}
+use Rattle.meaning.specs.Values.{doublesSeries, ratio}
 use Rattle.meaning.specs.Refusals.{seriesOf}
 use Rattle.theory.specs.Narrow.{series-cells, narrow-converted}
+use Rattle.plan.specs.Structs.{stagesOf}
 use Rattle.dungdapple.specs.Same.{same₂, stages-taken, narrow-as, converted-as}
 use Rattle.dungdapple.proofs.dungdapple_doubles_series.Statement.{statement}
 use Rattle.dungdapple.proofs.dungdapple_doubles_series.Tie as tie
@@ -22,7 +22,8 @@ told-requires : tie.Need-told-requires
 told-requires c κs =
     let s = c .before .before .before in
     let a = s .before .before .before .before .before .before .args in
-    narrow-as (s .doubles-series .ensures .answer) (narrow-converted (seriesOf (stagesOf (s .before .before .before .plan .result)) (length (a .results .now))) (series-cells (stagesOf (s .before .before .before .plan .result)) (length (a .results .now))) (s .before .before .count .result) (a .results .now) (a .cells .now) ratio)
+    let ss = stagesOf (s .before .before .before .plan .result) in
+    narrow-as (s .doubles-series .ensures .answer) (narrow-converted (seriesOf ss (length (a .results .now))) (series-cells ss (length (a .results .now))) (s .before .before .count .result) (a .results .now) (a .cells .now) ratio)
 
 same-length : tie.Need-same-length
 same-length c = search needs

@@ -4,12 +4,12 @@ use native.Mathlib.Omega.{arith}
 use borrow.Author.Needs.{needs, sfits-of}
 use lib.ListN.{length}
 use mir.Facts.{toZ-ofZ}
-use Rattle.meaning.specs.Extension.{fold}
-use Rattle.meaning.specs.Calls as C
-use Rattle.plan.specs.Structs.{stagesOf}
 use mir.Syntax.{w64}
 use mir.Val.{toZ, ofZ}
+use Rattle.meaning.specs.Extension.{fold}
+use Rattle.meaning.specs.Calls as C
 use Rattle.theory.specs.Narrow.{narrow-edit, narrow-count}
+use Rattle.plan.specs.Structs.{stagesOf}
 use Rattle.dungdapple.specs.Held.{fits-as}
 use Rattle.dungdapple.specs.Same.{same₄, stages-taken, narrow-as, edited-as}
 use Rattle.dungdapple.proofs.dungdapple_edit_series.Statement.{statement}
@@ -34,13 +34,15 @@ cast-count : tie.Need-cast-count
 cast-count c =
     let s = c .before .before .before in
     let a = s .before .before .before .before .before .before .before .before .args in
-    fits-as (s .edit-alone .ensures .count) (narrow-count fold (stagesOf (s .before .before .before .before .before .before .plan .result)) (s .before .before .before .before .before .count .result) (s .before .before .before .before .count2 .result) (toZ w64 (ofZ w64 (s .before .before .before .whole .result))) (a .samples .now) (a .results .now) (C.asked (stagesOf (s .before .before .before .before .before .before .plan .result)) (length (a .samples .now)))) (omega arith)
+    let ss = stagesOf (s .before .before .before .before .before .before .plan .result) in
+    fits-as (s .edit-alone .ensures .count) (narrow-count fold ss (s .before .before .before .before .before .count .result) (s .before .before .before .before .count2 .result) (toZ w64 (ofZ w64 (s .before .before .before .whole .result))) (a .samples .now) (a .results .now) (C.asked ss (length (a .samples .now)))) (omega arith)
 
 checked-requires : tie.Need-checked-requires
 checked-requires c κs =
     let s = c .before .before .before .before .before in
     let a = s .before .before .before .before .before .before .before .before .args in
-    narrow-as (s .edit-alone .ensures .answer) (narrow-edit fold (stagesOf (s .before .before .before .before .before .before .plan .result)) (s .before .before .before .before .before .count .result) (s .before .before .before .before .count2 .result) (toZ w64 (ofZ w64 (s .before .before .before .whole .result))) (a .samples .now) (a .results .now) (C.asked (stagesOf (s .before .before .before .before .before .before .plan .result)) (length (a .samples .now))))
+    let ss = stagesOf (s .before .before .before .before .before .before .plan .result) in
+    narrow-as (s .edit-alone .ensures .answer) (narrow-edit fold ss (s .before .before .before .before .before .count .result) (s .before .before .before .before .count2 .result) (toZ w64 (ofZ w64 (s .before .before .before .whole .result))) (a .samples .now) (a .results .now) (C.asked ss (length (a .samples .now))))
 
 same-length : tie.Need-same-length
 same-length c = search needs

@@ -34,20 +34,25 @@ checked-requires : tie.Need-checked-requires
 checked-requires c κs =
     let p = c .before .before .before .before .before in
     let a = p .before .before .before .before .before .args in
-    narrow-as (point-refused (stagesOf (p .before .before .before .plan .result)) (p .before .before .count .result) (p .before .count2 .result) (a .samples .now) (C.asked (stagesOf (p .before .before .before .plan .result)) (length (a .samples .now))) (p .point-alone .ensures) (c .before .before .before .answer2 .given .1) .answer) (narrow-point fold (stagesOf (p .before .before .before .plan .result)) (p .before .before .count .result) (p .before .count2 .result) (a .samples .now) (C.asked (stagesOf (p .before .before .before .plan .result)) (length (a .samples .now))))
+    let ss = stagesOf (p .before .before .before .plan .result) in
+    let M = p .before .before .count .result in
+    let n = p .before .count2 .result in
+    narrow-as (point-refused ss M n (a .samples .now) (C.asked ss (length (a .samples .now))) (p .point-alone .ensures) (c .before .before .before .answer2 .given .1) .answer) (narrow-point fold ss M n (a .samples .now) (C.asked ss (length (a .samples .now))))
 
 returns : tie.Need-returns
 returns c =
     let p = c .before .before .before in
     let a = p .before .before .before .before .before .args in
-    points-as (same₃ (λ ss M n. C.point fold ss M n (a .samples .now) (C.asked ss (length (a .samples .now)))) (stages-taken (p .before .before .before .plan .ensures)) (p .before .before .count .ensures) (p .before .count2 .ensures)) refl (point-value (stagesOf (p .before .before .before .plan .result)) (p .before .before .count .result) (p .before .count2 .result) (a .samples .now) (C.asked (stagesOf (p .before .before .before .plan .result)) (length (a .samples .now))) (p .point-alone .ensures) (c .before .answer .given .1))
+    let ss = stagesOf (p .before .before .before .plan .result) in
+    points-as (same₃ (λ ss M n. C.point fold ss M n (a .samples .now) (C.asked ss (length (a .samples .now)))) (stages-taken (p .before .before .before .plan .ensures)) (p .before .before .count .ensures) (p .before .count2 .ensures)) refl (point-value ss (p .before .before .count .result) (p .before .count2 .result) (a .samples .now) (C.asked ss (length (a .samples .now))) (p .point-alone .ensures) (c .before .answer .given .1))
 
 returns-2 : tie.Need-returns-2
 unfolding ofBits
 returns-2 c =
     let p = c .before .before .before .before .before .before in
     let a = p .before .before .before .before .before .args in
-    points-as (same₃ (λ ss M n. C.point fold ss M n (a .samples .now) (C.asked ss (length (a .samples .now)))) (stages-taken (p .before .before .before .plan .ensures)) (p .before .before .count .ensures) (p .before .count2 .ensures)) (c .checked .ensures) (point-refused (stagesOf (p .before .before .before .plan .result)) (p .before .before .count .result) (p .before .count2 .result) (a .samples .now) (C.asked (stagesOf (p .before .before .before .plan .result)) (length (a .samples .now))) (p .point-alone .ensures) (c .before .before .before .before .answer2 .given .1))
+    let ss = stagesOf (p .before .before .before .plan .result) in
+    points-as (same₃ (λ ss M n. C.point fold ss M n (a .samples .now) (C.asked ss (length (a .samples .now)))) (stages-taken (p .before .before .before .plan .ensures)) (p .before .before .count .ensures) (p .before .count2 .ensures)) (c .checked .ensures) (point-refused ss (p .before .before .count .result) (p .before .count2 .result) (a .samples .now) (C.asked ss (length (a .samples .now))) (p .point-alone .ensures) (c .before .before .before .before .answer2 .given .1))
 
 pub dungdapple-point-spec : {M : Type 1} → statement M
 dungdapple-point-spec =

@@ -2,10 +2,10 @@
 use borrow.Author.Needs.{needs}
 use Rattle.meaning.specs.Extension.{fold}
 use Rattle.meaning.specs.Calls as C
-use Rattle.plan.specs.Structs.{stagesOf}
 use Rattle.meaning.specs.Refusals.{pictureOf}
 use Rattle.meaning.specs.Picture.{picture}
 use Rattle.theory.specs.Narrow.{picture-cells, narrow-smoothed}
+use Rattle.plan.specs.Structs.{stagesOf}
 use Rattle.dungdapple.specs.Same.{same₅, stages-taken, narrow-as, smoothed-as}
 use Rattle.dungdapple.proofs.dungdapple_smooth_picture.Statement.{statement}
 use Rattle.dungdapple.proofs.dungdapple_smooth_picture.Tie as tie
@@ -32,7 +32,11 @@ checked-requires : tie.Need-checked-requires
 checked-requires c κs =
     let s = c .before .before .before .before in
     let a = s .before .before .before .before .before .before .before .before .before .before .args in
-    narrow-as (s .smooth-picture .ensures .answer) (narrow-smoothed (pictureOf (stagesOf (s .before .before .before .before .before .before .before .plan .result)) (stagesOf (s .before .before .before .before .before .before .plan2 .result)) (s .before .before .before .before .count2 .result) (s .before .before .before .count3 .result)) (picture-cells (stagesOf (s .before .before .before .before .before .before .before .plan .result)) (stagesOf (s .before .before .before .before .before .before .plan2 .result)) (s .before .before .before .before .count2 .result) (s .before .before .before .count3 .result)) (s .before .before .before .before .before .count .result) (picture fold fold (stagesOf (s .before .before .before .before .before .before .before .plan .result)) (stagesOf (s .before .before .before .before .before .before .plan2 .result)) (s .before .before .before .before .count2 .result) (s .before .before .before .count3 .result) (a .samples .now)) (a .samples .now) (a .results .now) (a .work .now))
+    let hs = stagesOf (s .before .before .before .before .before .before .before .plan .result) in
+    let vs = stagesOf (s .before .before .before .before .before .before .plan2 .result) in
+    let W = s .before .before .before .before .count2 .result in
+    let H = s .before .before .before .count3 .result in
+    narrow-as (s .smooth-picture .ensures .answer) (narrow-smoothed (pictureOf hs vs W H) (picture-cells hs vs W H) (s .before .before .before .before .before .count .result) (picture fold fold hs vs W H (a .samples .now)) (a .samples .now) (a .results .now) (a .work .now))
 
 same-length : tie.Need-same-length
 same-length c = search needs

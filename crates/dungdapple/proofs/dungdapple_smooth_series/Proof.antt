@@ -1,12 +1,12 @@
 -- The numbers that were taken, the call, and its answer told.
 use borrow.Author.Needs.{needs}
+use lib.ListN.{length}
 use Rattle.meaning.specs.Extension.{fold}
 use Rattle.meaning.specs.Calls as C
-use Rattle.plan.specs.Structs.{stagesOf}
-use lib.ListN.{length}
 use Rattle.meaning.specs.Refusals.{seriesOf}
 use Rattle.meaning.specs.Smoothing.{results}
 use Rattle.theory.specs.Narrow.{series-cells, narrow-smoothed}
+use Rattle.plan.specs.Structs.{stagesOf}
 use Rattle.dungdapple.specs.Same.{same₂, stages-taken, narrow-as, smoothed-as}
 use Rattle.dungdapple.proofs.dungdapple_smooth_series.Statement.{statement}
 use Rattle.dungdapple.proofs.dungdapple_smooth_series.Tie as tie
@@ -24,7 +24,8 @@ checked-requires : tie.Need-checked-requires
 checked-requires c κs =
     let s = c .before .before .before .before in
     let a = s .before .before .before .before .before .before .args in
-    narrow-as (s .smooth-series .ensures .answer) (narrow-smoothed (seriesOf (stagesOf (s .before .before .before .before .plan .result)) (length (a .samples .now))) (series-cells (stagesOf (s .before .before .before .before .plan .result)) (length (a .samples .now))) (s .before .before .before .count .result) (results fold (stagesOf (s .before .before .before .before .plan .result)) (a .samples .now)) (a .samples .now) (a .results .now) (a .work .now))
+    let ss = stagesOf (s .before .before .before .before .plan .result) in
+    narrow-as (s .smooth-series .ensures .answer) (narrow-smoothed (seriesOf ss (length (a .samples .now))) (series-cells ss (length (a .samples .now))) (s .before .before .before .count .result) (results fold ss (a .samples .now)) (a .samples .now) (a .results .now) (a .work .now))
 
 same-length : tie.Need-same-length
 same-length c = search needs

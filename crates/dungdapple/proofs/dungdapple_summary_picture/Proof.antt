@@ -3,9 +3,9 @@ use mathlib.Core.Path.{ap}
 use native.Mathlib.Omega.{arith}
 use borrow.Author.Needs.{needs}
 use Rattle.meaning.specs.Values.{Summary, summaryPicture}
-use Rattle.plan.specs.Structs.{stagesOf}
 use Rattle.meaning.specs.Refusals.{pictureOf}
 use Rattle.theory.specs.Narrow.{picture-cells, narrow-summary, lowest-most, highest-most}
+use Rattle.plan.specs.Structs.{stagesOf}
 use Rattle.dungdapple.specs.Held.{fits-as}
 use Rattle.dungdapple.specs.Same.{same₅, stages-taken, narrow-as, summary-as}
 use Rattle.dungdapple.proofs.dungdapple_summary_picture.Statement.{statement}
@@ -33,19 +33,31 @@ cast-lowest-at : tie.Need-cast-lowest-at
 cast-lowest-at c =
     let s = c .before in
     let a = s .before .before .before .before .before .before .before .before .args in
-    fits-as (ap (λ (o : Summary). o .lowestAt) (s .summary-picture .ensures)) (lowest-most (pictureOf (stagesOf (s .before .before .before .before .before .plan .result)) (stagesOf (s .before .before .before .before .plan2 .result)) (s .before .before .count2 .result) (s .before .count3 .result)) (picture-cells (stagesOf (s .before .before .before .before .before .plan .result)) (stagesOf (s .before .before .before .before .plan2 .result)) (s .before .before .count2 .result) (s .before .count3 .result)) (s .before .before .before .count .result) (a .results .now)) (omega arith)
+    let hs = stagesOf (s .before .before .before .before .before .plan .result) in
+    let vs = stagesOf (s .before .before .before .before .plan2 .result) in
+    let W = s .before .before .count2 .result in
+    let H = s .before .count3 .result in
+    fits-as (ap (λ (o : Summary). o .lowestAt) (s .summary-picture .ensures)) (lowest-most (pictureOf hs vs W H) (picture-cells hs vs W H) (s .before .before .before .count .result) (a .results .now)) (omega arith)
 
 cast-highest-at : tie.Need-cast-highest-at
 cast-highest-at c =
     let s = c .before .before in
     let a = s .before .before .before .before .before .before .before .before .args in
-    fits-as (ap (λ (o : Summary). o .highestAt) (s .summary-picture .ensures)) (highest-most (pictureOf (stagesOf (s .before .before .before .before .before .plan .result)) (stagesOf (s .before .before .before .before .plan2 .result)) (s .before .before .count2 .result) (s .before .count3 .result)) (picture-cells (stagesOf (s .before .before .before .before .before .plan .result)) (stagesOf (s .before .before .before .before .plan2 .result)) (s .before .before .count2 .result) (s .before .count3 .result)) (s .before .before .before .count .result) (a .results .now)) (omega arith)
+    let hs = stagesOf (s .before .before .before .before .before .plan .result) in
+    let vs = stagesOf (s .before .before .before .before .plan2 .result) in
+    let W = s .before .before .count2 .result in
+    let H = s .before .count3 .result in
+    fits-as (ap (λ (o : Summary). o .highestAt) (s .summary-picture .ensures)) (highest-most (pictureOf hs vs W H) (picture-cells hs vs W H) (s .before .before .before .count .result) (a .results .now)) (omega arith)
 
 told-requires : tie.Need-told-requires
 told-requires c κs =
     let s = c .before .before .before in
     let a = s .before .before .before .before .before .before .before .before .args in
-    narrow-as (ap (λ (o : Summary). o .answer) (s .summary-picture .ensures)) (narrow-summary (pictureOf (stagesOf (s .before .before .before .before .before .plan .result)) (stagesOf (s .before .before .before .before .plan2 .result)) (s .before .before .count2 .result) (s .before .count3 .result)) (picture-cells (stagesOf (s .before .before .before .before .before .plan .result)) (stagesOf (s .before .before .before .before .plan2 .result)) (s .before .before .count2 .result) (s .before .count3 .result)) (s .before .before .before .count .result) (a .results .now))
+    let hs = stagesOf (s .before .before .before .before .before .plan .result) in
+    let vs = stagesOf (s .before .before .before .before .plan2 .result) in
+    let W = s .before .before .count2 .result in
+    let H = s .before .count3 .result in
+    narrow-as (ap (λ (o : Summary). o .answer) (s .summary-picture .ensures)) (narrow-summary (pictureOf hs vs W H) (picture-cells hs vs W H) (s .before .before .before .count .result) (a .results .now))
 
 returns : tie.Need-returns
 returns c =

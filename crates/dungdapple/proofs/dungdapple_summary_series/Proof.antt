@@ -2,11 +2,11 @@
 use mathlib.Core.Path.{ap}
 use native.Mathlib.Omega.{arith}
 use borrow.Author.Needs.{needs}
-use Rattle.meaning.specs.Values.{Summary, summarySeries}
-use Rattle.plan.specs.Structs.{stagesOf}
 use lib.ListN.{length}
+use Rattle.meaning.specs.Values.{Summary, summarySeries}
 use Rattle.meaning.specs.Refusals.{seriesOf}
 use Rattle.theory.specs.Narrow.{series-cells, narrow-summary, lowest-most, highest-most}
+use Rattle.plan.specs.Structs.{stagesOf}
 use Rattle.dungdapple.specs.Held.{fits-as}
 use Rattle.dungdapple.specs.Same.{same₂, stages-taken, narrow-as, summary-as}
 use Rattle.dungdapple.proofs.dungdapple_summary_series.Statement.{statement}
@@ -25,19 +25,22 @@ cast-lowest-at : tie.Need-cast-lowest-at
 cast-lowest-at c =
     let s = c .before in
     let a = s .before .before .before .before .args in
-    fits-as (ap (λ (o : Summary). o .lowestAt) (s .summary-series .ensures)) (lowest-most (seriesOf (stagesOf (s .before .before .plan .result)) (length (a .results .now))) (series-cells (stagesOf (s .before .before .plan .result)) (length (a .results .now))) (s .before .count .result) (a .results .now)) (omega arith)
+    let ss = stagesOf (s .before .before .plan .result) in
+    fits-as (ap (λ (o : Summary). o .lowestAt) (s .summary-series .ensures)) (lowest-most (seriesOf ss (length (a .results .now))) (series-cells ss (length (a .results .now))) (s .before .count .result) (a .results .now)) (omega arith)
 
 cast-highest-at : tie.Need-cast-highest-at
 cast-highest-at c =
     let s = c .before .before in
     let a = s .before .before .before .before .args in
-    fits-as (ap (λ (o : Summary). o .highestAt) (s .summary-series .ensures)) (highest-most (seriesOf (stagesOf (s .before .before .plan .result)) (length (a .results .now))) (series-cells (stagesOf (s .before .before .plan .result)) (length (a .results .now))) (s .before .count .result) (a .results .now)) (omega arith)
+    let ss = stagesOf (s .before .before .plan .result) in
+    fits-as (ap (λ (o : Summary). o .highestAt) (s .summary-series .ensures)) (highest-most (seriesOf ss (length (a .results .now))) (series-cells ss (length (a .results .now))) (s .before .count .result) (a .results .now)) (omega arith)
 
 told-requires : tie.Need-told-requires
 told-requires c κs =
     let s = c .before .before .before in
     let a = s .before .before .before .before .args in
-    narrow-as (ap (λ (o : Summary). o .answer) (s .summary-series .ensures)) (narrow-summary (seriesOf (stagesOf (s .before .before .plan .result)) (length (a .results .now))) (series-cells (stagesOf (s .before .before .plan .result)) (length (a .results .now))) (s .before .count .result) (a .results .now))
+    let ss = stagesOf (s .before .before .plan .result) in
+    narrow-as (ap (λ (o : Summary). o .answer) (s .summary-series .ensures)) (narrow-summary (seriesOf ss (length (a .results .now))) (series-cells ss (length (a .results .now))) (s .before .count .result) (a .results .now))
 
 returns : tie.Need-returns
 returns c =

@@ -1,9 +1,9 @@
 -- The numbers that were taken, the call, and its answer told.
 use borrow.Author.Needs.{needs}
 use Rattle.meaning.specs.Values.{wholePictureBy, rounded}
-use Rattle.plan.specs.Structs.{stagesOf}
 use Rattle.meaning.specs.Refusals.{pictureOf}
 use Rattle.theory.specs.Narrow.{picture-cells, narrow-mode}
+use Rattle.plan.specs.Structs.{stagesOf}
 use Rattle.dungdapple.specs.Same.{same₆, stages-taken, narrow-as, converted-as}
 use Rattle.dungdapple.proofs.dungdapple_whole_picture.Statement.{statement}
 use Rattle.dungdapple.proofs.dungdapple_whole_picture.Tie as tie
@@ -33,7 +33,12 @@ told-requires : tie.Need-told-requires
 told-requires c κs =
     let s = c .before .before in
     let a = s .before .before .before .before .before .before .before .before .before .before .args in
-    narrow-as (s .whole-picture-by .ensures .answer) (narrow-mode (pictureOf (stagesOf (s .before .before .before .before .before .before .before .plan .result)) (stagesOf (s .before .before .before .before .before .before .plan2 .result)) (s .before .before .before .before .count2 .result) (s .before .before .before .count3 .result)) (picture-cells (stagesOf (s .before .before .before .before .before .before .before .plan .result)) (stagesOf (s .before .before .before .before .before .before .plan2 .result)) (s .before .before .before .before .count2 .result) (s .before .before .before .count3 .result)) (s .before .before .before .before .before .count .result) (a .results .now) (a .cells .now) (s .before .before .count4 .result) (rounded (s .before .before .count4 .result)))
+    let hs = stagesOf (s .before .before .before .before .before .before .before .plan .result) in
+    let vs = stagesOf (s .before .before .before .before .before .before .plan2 .result) in
+    let W = s .before .before .before .before .count2 .result in
+    let H = s .before .before .before .count3 .result in
+    let mode = s .before .before .count4 .result in
+    narrow-as (s .whole-picture-by .ensures .answer) (narrow-mode (pictureOf hs vs W H) (picture-cells hs vs W H) (s .before .before .before .before .before .count .result) (a .results .now) (a .cells .now) mode (rounded mode))
 
 same-length : tie.Need-same-length
 same-length c = search needs

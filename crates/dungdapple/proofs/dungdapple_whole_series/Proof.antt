@@ -1,10 +1,10 @@
 -- The numbers that were taken, the call, and its answer told.
 use borrow.Author.Needs.{needs}
-use Rattle.meaning.specs.Values.{wholeSeriesBy, rounded}
-use Rattle.plan.specs.Structs.{stagesOf}
 use lib.ListN.{length}
+use Rattle.meaning.specs.Values.{wholeSeriesBy, rounded}
 use Rattle.meaning.specs.Refusals.{seriesOf}
 use Rattle.theory.specs.Narrow.{series-cells, narrow-mode}
+use Rattle.plan.specs.Structs.{stagesOf}
 use Rattle.dungdapple.specs.Same.{same₃, stages-taken, narrow-as, converted-as}
 use Rattle.dungdapple.proofs.dungdapple_whole_series.Statement.{statement}
 use Rattle.dungdapple.proofs.dungdapple_whole_series.Tie as tie
@@ -25,7 +25,9 @@ told-requires : tie.Need-told-requires
 told-requires c κs =
     let s = c .before .before in
     let a = s .before .before .before .before .before .before .args in
-    narrow-as (s .whole-series-by .ensures .answer) (narrow-mode (seriesOf (stagesOf (s .before .before .before .before .plan .result)) (length (a .results .now))) (series-cells (stagesOf (s .before .before .before .before .plan .result)) (length (a .results .now))) (s .before .before .before .count .result) (a .results .now) (a .cells .now) (s .before .before .count2 .result) (rounded (s .before .before .count2 .result)))
+    let ss = stagesOf (s .before .before .before .before .plan .result) in
+    let mode = s .before .before .count2 .result in
+    narrow-as (s .whole-series-by .ensures .answer) (narrow-mode (seriesOf ss (length (a .results .now))) (series-cells ss (length (a .results .now))) (s .before .before .before .count .result) (a .results .now) (a .cells .now) mode (rounded mode))
 
 same-length : tie.Need-same-length
 same-length c = search needs

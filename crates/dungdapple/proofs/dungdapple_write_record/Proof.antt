@@ -59,7 +59,8 @@ returns-2 c =
     let e = c .before .before .before .before .before .before .before .before .before in
     let a = e .before .before .before .before .before .before .args in
     let p = numbersOf (e .before .before .before .plan .result) in
-    written-as (same₂ (λ p M. writeRecordIn p M (a .samples .now) (a .bytes .now)) (e .before .before .before .plan .ensures) (e .before .before .count .ensures)) (write-rest p (e .before .before .count .result) (e .before .refusal .ensures) (a .samples .now) (a .bytes .now) (e .if1 .left) (written-plain (p .radius) (p .inner) (p .edge) (p .passes) (e .before .before .count .result) (a .samples .now) (a .bytes .now) (c .before .before .before .write-record .ensures)))
+    let M = e .before .before .count .result in
+    written-as (same₂ (λ p M. writeRecordIn p M (a .samples .now) (a .bytes .now)) (e .before .before .before .plan .ensures) (e .before .before .count .ensures)) (write-rest p M (e .before .refusal .ensures) (a .samples .now) (a .bytes .now) (e .if1 .left) (written-plain (p .radius) (p .inner) (p .edge) (p .passes) M (a .samples .now) (a .bytes .now) (c .before .before .before .write-record .ensures)))
 
 pub dungdapple-write-record-spec : {M : Type 1} → statement M
 dungdapple-write-record-spec =
