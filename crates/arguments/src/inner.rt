@@ -1,6 +1,9 @@
 // A host's doubles as the numbers that calls take. What is no such number becomes one that no limit allows, so that the call itself refuses it.
 ghost use mathlib.Core.Path.{_≡_};
+ghost use Rattle.meaning.specs.Refusals.{firstOf};
 ghost use Rattle.meaning.specs.Arguments.{wholeOf, countOf, planIn};
+ghost use Rattle.meaning.specs.HostRecord.{fieldRows};
+ghost use Rattle.plan.specs.Structs.{plain};
 ghost use Rattle.arguments.specs.Numbers.{numbersOf};
 use plan::Plan;
 
@@ -40,4 +43,26 @@ pub fn plan(numbers: &[f64]) -> Plan
     let edge = count(numbers[2]);
     let passes = count(numbers[3]);
     Plan::new(radius, inner, edge, passes)
+}
+
+// Rows 1 to 5 of the writer: a number that its field cannot hold.
+pub fn field_refusal(plan: Plan, bound: u64) -> u32
+    ensures { λ r. ⌜ plain r ≡ firstOf (fieldRows (numbersOf plan) bound) ⌝ }
+{
+    if 256 <= plan.passes {
+        return 1;
+    }
+    if 65536 <= plan.radius {
+        return 2;
+    }
+    if 256 <= plan.inner {
+        return 3;
+    }
+    if 256 <= plan.edge {
+        return 4;
+    }
+    if 4294967296 <= bound {
+        return 5;
+    }
+    0
 }

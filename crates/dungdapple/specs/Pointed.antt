@@ -19,7 +19,8 @@ use Rattle.plan.specs.declared.Point.{Point}
 use Rattle.plan.specs.declared.Point.the-variants.{Value, Refused}
 use Rattle.plan.specs.Structs.{pointAnswer, pointValue, pointOf, pointAnswer-of}
 use Rattle.point.specs.Contract.{Tells}
-use Rattle.dungdapple.specs.Told.{Points, said}
+use Rattle.answers.specs.Told.{said}
+use Rattle.dungdapple.specs.Told.{Points}
 
 value-of : (a : Answer) (v : Float) → pointValue (pointOf a (ifDone a v plusZero)) ≡ ifDone a v plusZero
 unfolding ifDone

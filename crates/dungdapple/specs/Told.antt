@@ -1,8 +1,6 @@
--- What a host is told.
---   said n p b        the answer of number n, position p and b bad samples
+-- What a host is told besides.
 --   Points o a x      the answer a and the value x of a point are those of the outcome o
 --   Carries o a x left   the answer a, the last carry as the double x, and the cells left, are those of the outcome o
-use Prim.Native.Nat.{ℕ}
 use mathlib.Core.Path.{_≡_}
 use mathlib.Core.List.{List}
 use lib.IntN.{ℤ, pos}
@@ -10,9 +8,6 @@ use lib.Ieee.{Float, binary64, ofInt}
 use Rattle.meaning.specs.Refusals.{Answer}
 use Rattle.meaning.specs.Calls.{Pointed}
 use Rattle.meaning.specs.Carry.{Carried}
-
-abbrev pub said : ℕ → ℕ → ℕ → Answer
-said n p b = record { number = n; position = p; bad = b }
 
 pub record Points (o : Pointed) (a : Answer) (x : Float) : Type 0 where
   pub answer : a ≡ o .answer

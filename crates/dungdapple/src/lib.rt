@@ -20,13 +20,11 @@ ghost use Rattle.plan.specs.Contract as conversion;
 ghost use Rattle.series.specs.Contract as smoothing;
 ghost use Rattle.edit.specs.Contract as editing;
 ghost use Rattle.writer.specs.Contract as writing;
-ghost use Rattle.dungdapple.specs.Told.{said, Points, Carries};
+ghost use Rattle.answers.specs.Told.{said};
+ghost use Rattle.dungdapple.specs.Told.{Points, Carries};
 use plan::Answer;
 use plan::Checked;
 use plan::Point;
-
-mod answers;
-mod fields;
 
 // Smooths the samples into the results, and leaves zeros in work.
 #[no_mangle]
@@ -44,7 +42,7 @@ pub extern "C" fn dungdapple_smooth_series(
     let numbers = arguments::inner::plan(plan);
     let most = arguments::inner::count(bound);
     let answer = series::smooth_series(numbers, most, samples, results, work);
-    answers::checked(answer, place, bad)
+    answers::inner::checked(answer, place, bad)
 }
 
 // The same of a picture, rows by the plan across and columns by the plan down.
@@ -69,7 +67,7 @@ pub extern "C" fn dungdapple_smooth_picture(
     let wide = arguments::inner::count(width);
     let high = arguments::inner::count(height);
     let answer = picture::smooth_picture(rows, columns, most, wide, high, samples, results, work);
-    answers::checked(answer, place, bad)
+    answers::inner::checked(answer, place, bad)
 }
 
 // Sets the sample at `position` to the value, and gives each result within reach its gain. It is lent no work.
@@ -98,7 +96,7 @@ pub extern "C" fn dungdapple_edit_series(
         position: edited.position,
         bad: edited.bad,
     };
-    answers::checked(answer, place, bad)
+    answers::inner::checked(answer, place, bad)
 }
 
 // The smoothed value at `position`; plus zero where refused. It is lent no work.
@@ -132,7 +130,7 @@ pub extern "C" fn dungdapple_point(
                 position: index,
                 bad: count,
             };
-            answers::checked(told, place, bad)
+            answers::inner::checked(told, place, bad)
         }
     }
 }
@@ -188,7 +186,7 @@ pub extern "C" fn dungdapple_doubles_in(
 {
     let most = arguments::inner::count(bound);
     let answer = samples::doubles_in(most, doubles, samples);
-    answers::checked(answer, place, bad)
+    answers::inner::checked(answer, place, bad)
 }
 
 // Each result over the divisor, to the nearest whole number, a half going by the mode: 0 to the even neighbour, 1 upward.
@@ -207,7 +205,7 @@ pub extern "C" fn dungdapple_whole_series(
     let most = arguments::inner::count(bound);
     let half = arguments::inner::count(mode);
     let answer = whole::whole_series_by(numbers, most, half, results, cells);
-    answers::told(answer, place)
+    answers::inner::told(answer, place)
 }
 
 // The same of a picture, over the product of both divisors.
@@ -232,7 +230,7 @@ pub extern "C" fn dungdapple_whole_picture(
     let high = arguments::inner::count(height);
     let half = arguments::inner::count(mode);
     let answer = whole::whole_picture_by(rows, columns, most, wide, high, half, results, cells);
-    answers::told(answer, place)
+    answers::inner::told(answer, place)
 }
 
 // Each result and the carry over the divisor, rounded down, the rest carried on; the last carry is answered.
@@ -255,7 +253,7 @@ pub extern "C" fn dungdapple_carry_series(
         number: carried.number,
         position: carried.position,
     };
-    answers::told(answer, place)
+    answers::inner::told(answer, place)
 }
 
 // The same of a picture, over the product of both divisors.
@@ -284,7 +282,7 @@ pub extern "C" fn dungdapple_carry_picture(
         number: run.number,
         position: run.position,
     };
-    answers::told(answer, place)
+    answers::inner::told(answer, place)
 }
 
 // Each result over the divisor as a double, by one division.
@@ -301,7 +299,7 @@ pub extern "C" fn dungdapple_doubles_series(
     let numbers = arguments::inner::plan(plan);
     let most = arguments::inner::count(bound);
     let answer = doubles::doubles_series(numbers, most, results, cells);
-    answers::told(answer, place)
+    answers::inner::told(answer, place)
 }
 
 // The same of a picture, over the product of both divisors.
@@ -324,7 +322,7 @@ pub extern "C" fn dungdapple_doubles_picture(
     let wide = arguments::inner::count(width);
     let high = arguments::inner::count(height);
     let answer = doubles::doubles_picture(rows, columns, most, wide, high, results, cells);
-    answers::told(answer, place)
+    answers::inner::told(answer, place)
 }
 
 // The lowest and the highest result over the divisor, with the first index of each; plus zero and 0 where refused.
@@ -352,7 +350,7 @@ pub extern "C" fn dungdapple_summary_series(
         number: found.number,
         position: found.position,
     };
-    answers::told(answer, place)
+    answers::inner::told(answer, place)
 }
 
 // The same of a picture, over the product of both divisors.
@@ -386,7 +384,7 @@ pub extern "C" fn dungdapple_summary_picture(
         number: found.number,
         position: found.position,
     };
-    answers::told(answer, place)
+    answers::inner::told(answer, place)
 }
 
 // Each result as the double that is the same number.
@@ -399,7 +397,7 @@ pub extern "C" fn dungdapple_results_to_doubles(
     ensures { λ r. ⌜ conversion.Gives (exactly.resultsToDoubles (now (results .entry)) (now (cells .entry))) (said r (now (place .exit)) 0) (now (cells .exit)) ⌝ }
 {
     let answer = exact::results_to_doubles(results, cells);
-    answers::told(answer, place)
+    answers::inner::told(answer, place)
 }
 
 // Each double as the result that is the same number.
@@ -413,7 +411,7 @@ pub extern "C" fn dungdapple_doubles_to_results(
     ensures { λ r. ⌜ conversion.Gives (exactly.doublesToResults (now (doubles .entry)) (now (results .entry))) (said r (now (place .exit)) (now (bad .exit))) (now (results .exit)) ⌝ }
 {
     let answer = exact::doubles_to_results(doubles, results);
-    answers::checked(answer, place, bad)
+    answers::inner::checked(answer, place, bad)
 }
 
 // The numbers of a job record, and the stretch of it that holds the samples, in bytes; all 0 where refused.
@@ -461,7 +459,7 @@ pub extern "C" fn dungdapple_write_record(
 {
     let numbers = arguments::inner::plan(plan);
     let most = arguments::inner::count(bound);
-    let number = fields::refusal(numbers, most);
+    let number = arguments::inner::field_refusal(numbers, most);
     if number != 0 {
         return number;
     }

@@ -18,7 +18,8 @@ use Rattle.meaning.specs.Carry.{Carried, carrySeries, carryPicture}
 use Rattle.meaning.specs.Exact.{resultsToDoubles, doublesToResults}
 use Rattle.meaning.specs.Arguments.{countOf, stagesIn}
 use Rattle.plan.specs.Contract.{Gives}
-use Rattle.dungdapple.specs.Told.{said, Carries}
+use Rattle.answers.specs.Told.{said}
+use Rattle.dungdapple.specs.Told.{Carries}
 use Rattle.dungdapple.proofs.dungdapple_doubles_in.Reads as doubles-in
 use Rattle.dungdapple.proofs.dungdapple_doubles_in.Kinds as doubles-in-kinds
 use Rattle.dungdapple.proofs.dungdapple_whole_series.Reads as whole-series

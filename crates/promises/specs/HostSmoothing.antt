@@ -33,7 +33,8 @@ use Rattle.plan.specs.Structs.{checkedAnswer, editAnswer, pointAnswer}
 use Rattle.series.specs.Contract as smoothing
 use Rattle.edit.specs.Contract as editing
 use Rattle.arguments.specs.Numbers.{numbersOf}
-use Rattle.dungdapple.specs.Told.{said, Points}
+use Rattle.answers.specs.Told.{said}
+use Rattle.dungdapple.specs.Told.{Points}
 use Rattle.dungdapple.specs.Pointed as law
 use Rattle.dungdapple.proofs.dungdapple_smooth_series.Reads as smooth-series
 use Rattle.dungdapple.proofs.dungdapple_smooth_series.Kinds as smooth-series-kinds

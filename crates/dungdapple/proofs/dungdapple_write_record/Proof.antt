@@ -6,9 +6,10 @@ use Rattle.meaning.specs.Refusals.{Answer}
 use Rattle.meaning.specs.HostRecord.{writeRecordIn}
 use Rattle.theory.specs.Narrow.{narrow-written}
 use Rattle.arguments.specs.Numbers.{numbersOf}
+use Rattle.arguments.specs.Fields.{fields-fit}
 use Rattle.dungdapple.specs.Same.{same₂, written-as}
 use Rattle.dungdapple.specs.Held.{fits-as}
-use Rattle.dungdapple.specs.Fields.{fields-fit, write-refused, write-rest, written-plain}
+use Rattle.dungdapple.specs.Writing.{write-refused, write-rest, written-plain}
 use Rattle.dungdapple.proofs.dungdapple_write_record.Statement.{statement}
 use Rattle.dungdapple.proofs.dungdapple_write_record.Tie as tie
 
@@ -18,28 +19,28 @@ plan-requires c κs = search needs
 count-requires : tie.Need-count-requires
 count-requires c κs = search needs
 
-refusal-requires : tie.Need-refusal-requires
-refusal-requires c κs = search needs
+field-refusal-requires : tie.Need-field-refusal-requires
+field-refusal-requires c κs = search needs
 
 returns : tie.Need-returns
 returns c =
     let a = c .before .before .before .before .before .before .args in
-    written-as (same₂ (λ p M. writeRecordIn p M (a .samples .now) (a .bytes .now)) (c .before .before .before .plan .ensures) (c .before .before .count .ensures)) (write-refused (numbersOf (c .before .before .before .plan .result)) (c .before .before .count .result) (c .before .refusal .ensures) (a .samples .now) (a .bytes .now) (c .if1 .taken))
+    written-as (same₂ (λ p M. writeRecordIn p M (a .samples .now) (a .bytes .now)) (c .before .before .before .plan .ensures) (c .before .before .count .ensures)) (write-refused (numbersOf (c .before .before .before .plan .result)) (c .before .before .count .result) (c .before .field-refusal .ensures) (a .samples .now) (a .bytes .now) (c .if1 .taken))
 
 cast-write-record : tie.Need-cast-write-record
-cast-write-record c = omega (arith, fields-fit (numbersOf (c .before .before .before .before .plan .result)) (c .before .before .before .count .result) (c .before .before .refusal .ensures) (c .before .if1 .left) .1)
+cast-write-record c = omega (arith, fields-fit (numbersOf (c .before .before .before .before .plan .result)) (c .before .before .before .count .result) (c .before .before .field-refusal .ensures) (c .before .if1 .left) .1)
 
 cast-write-record-2 : tie.Need-cast-write-record-2
-cast-write-record-2 c = omega (arith, fields-fit (numbersOf (c .before .before .before .before .before .plan .result)) (c .before .before .before .before .count .result) (c .before .before .before .refusal .ensures) (c .before .before .if1 .left) .2)
+cast-write-record-2 c = omega (arith, fields-fit (numbersOf (c .before .before .before .before .before .plan .result)) (c .before .before .before .before .count .result) (c .before .before .before .field-refusal .ensures) (c .before .before .if1 .left) .2)
 
 cast-write-record-3 : tie.Need-cast-write-record-3
-cast-write-record-3 c = omega (arith, fields-fit (numbersOf (c .before .before .before .before .before .before .plan .result)) (c .before .before .before .before .before .count .result) (c .before .before .before .before .refusal .ensures) (c .before .before .before .if1 .left) .3)
+cast-write-record-3 c = omega (arith, fields-fit (numbersOf (c .before .before .before .before .before .before .plan .result)) (c .before .before .before .before .before .count .result) (c .before .before .before .before .field-refusal .ensures) (c .before .before .before .if1 .left) .3)
 
 cast-write-record-4 : tie.Need-cast-write-record-4
-cast-write-record-4 c = omega (arith, fields-fit (numbersOf (c .before .before .before .before .before .before .before .plan .result)) (c .before .before .before .before .before .before .count .result) (c .before .before .before .before .before .refusal .ensures) (c .before .before .before .before .if1 .left) .0)
+cast-write-record-4 c = omega (arith, fields-fit (numbersOf (c .before .before .before .before .before .before .before .plan .result)) (c .before .before .before .before .before .before .count .result) (c .before .before .before .before .before .field-refusal .ensures) (c .before .before .before .before .if1 .left) .0)
 
 cast-write-record-5 : tie.Need-cast-write-record-5
-cast-write-record-5 c = omega (arith, fields-fit (numbersOf (c .before .before .before .before .before .before .before .plan .result)) (c .before .before .before .before .before .before .count .result) (c .before .before .before .before .before .refusal .ensures) (c .before .before .before .before .if1 .left) .4)
+cast-write-record-5 c = omega (arith, fields-fit (numbersOf (c .before .before .before .before .before .before .before .plan .result)) (c .before .before .before .before .before .before .count .result) (c .before .before .before .before .before .field-refusal .ensures) (c .before .before .before .before .if1 .left) .4)
 
 write-record-requires : tie.Need-write-record-requires
 write-record-requires c κs = search needs
@@ -60,7 +61,7 @@ returns-2 c =
     let a = e .before .before .before .before .before .before .args in
     let p = numbersOf (e .before .before .before .plan .result) in
     let M = e .before .before .count .result in
-    written-as (same₂ (λ p M. writeRecordIn p M (a .samples .now) (a .bytes .now)) (e .before .before .before .plan .ensures) (e .before .before .count .ensures)) (write-rest p M (e .before .refusal .ensures) (a .samples .now) (a .bytes .now) (e .if1 .left) (written-plain (p .radius) (p .inner) (p .edge) (p .passes) M (a .samples .now) (a .bytes .now) (c .before .before .before .write-record .ensures)))
+    written-as (same₂ (λ p M. writeRecordIn p M (a .samples .now) (a .bytes .now)) (e .before .before .before .plan .ensures) (e .before .before .count .ensures)) (write-rest p M (e .before .field-refusal .ensures) (a .samples .now) (a .bytes .now) (e .if1 .left) (written-plain (p .radius) (p .inner) (p .edge) (p .passes) M (a .samples .now) (a .bytes .now) (c .before .before .before .write-record .ensures)))
 
 pub dungdapple-write-record-spec : {M : Type 1} → statement M
 dungdapple-write-record-spec =
@@ -68,7 +69,7 @@ dungdapple-write-record-spec =
     (tie.spec
     plan-requires
     count-requires
-    refusal-requires
+    field-refusal-requires
     returns
     cast-write-record
     cast-write-record-2

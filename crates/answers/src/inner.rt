@@ -2,12 +2,12 @@
 ghost use mathlib.Core.Path.{_≡_};
 ghost use Rattle.plan.specs.Structs.{answerOf, checkedAnswer};
 ghost use Rattle.theory.specs.Narrow.{Narrow};
-ghost use Rattle.dungdapple.specs.Told.{said};
+ghost use Rattle.answers.specs.Told.{said};
 use plan::Answer;
 use plan::Checked;
 
 // Of a call that tests no samples.
-pub(crate) fn told(answer: Answer, place: &mut u32) -> u32
+pub fn told(answer: Answer, place: &mut u32) -> u32
     requires { ⌜ Narrow (answerOf answer) ⌝ }
     ensures { λ r. ⌜ said r (now (place .exit)) 0 ≡ answerOf answer ⌝ }
 {
@@ -16,7 +16,7 @@ pub(crate) fn told(answer: Answer, place: &mut u32) -> u32
 }
 
 // Of one that does.
-pub(crate) fn checked(tested: Checked, place: &mut u32, bad: &mut u32) -> u32
+pub fn checked(tested: Checked, place: &mut u32, bad: &mut u32) -> u32
     requires { ⌜ Narrow (checkedAnswer tested) ⌝ }
     ensures { λ r. ⌜ said r (now (place .exit)) (now (bad .exit)) ≡ checkedAnswer tested ⌝ }
 {

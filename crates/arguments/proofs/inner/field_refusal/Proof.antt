@@ -1,8 +1,8 @@
 -- The first number that its field cannot hold.
 use Rattle.arguments.specs.Numbers.{numbersOf}
-use Rattle.dungdapple.specs.Fields.{field-1, field-2, field-3, field-4, field-5, fields-hold}
-use Rattle.dungdapple.proofs.fields.refusal.Statement.{statement}
-use Rattle.dungdapple.proofs.fields.refusal.Tie as tie
+use Rattle.arguments.specs.Fields.{field-1, field-2, field-3, field-4, field-5, fields-hold}
+use Rattle.arguments.proofs.inner.field_refusal.Statement.{statement}
+use Rattle.arguments.proofs.inner.field_refusal.Tie as tie
 
 returns : tie.Need-returns
 returns c = field-1 (numbersOf (c .before .before .args .plan)) _ (c .if1 .taken)
@@ -22,5 +22,5 @@ returns-5 c = field-5 (numbersOf (c .before .before .before .before .before .bef
 returns-6 : tie.Need-returns-6
 returns-6 c = fields-hold (numbersOf (c .before .before .before .before .before .before .before .before .before .args .plan)) _ (c .before .before .before .before .before .before .before .if1 .left) (c .before .before .before .before .before .if2 .left) (c .before .before .before .if3 .left) (c .before .if4 .left) (c .if5 .left)
 
-pub refusal-spec : {M : Type 1} → statement M
-refusal-spec = tie.close (tie.spec returns returns-2 returns-3 returns-4 returns-5 returns-6)
+pub field-refusal-spec : {M : Type 1} → statement M
+field-refusal-spec = tie.close (tie.spec returns returns-2 returns-3 returns-4 returns-5 returns-6)

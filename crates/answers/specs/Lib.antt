@@ -1,0 +1,3 @@
+-- The words of this crate's contracts.
+--   Told   what a host is told
+pub mod Told
