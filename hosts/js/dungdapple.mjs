@@ -1,5 +1,5 @@
 // Dungdapple for JavaScript: smoothing of series and pictures in exact whole numbers, by proved code.
-// What is proved ends at dungdapple.wasm; these files lend it memory and give numbers names.
+// Proved is the code that dungdapple.wasm is compiled from; these files lend it memory and give numbers names.
 export {
   EVEN, UPWARD, carryPicture, carrySeries, divisor, doublesIn, doublesPicture, doublesSeries, doublesToResults,
   editSeries, planFor, point, reach, resultsToDoubles, smoothPicture, smoothSeries, summaryPicture, summarySeries,
