@@ -20,7 +20,8 @@ const PAGE = `<!doctype html><meta charset="utf-8"><img src="/wait">
 <script type="module">
   const tell = (name, text) => fetch('/say/' + name, { method: 'POST', body: text });
   import('./test/browser.mjs').then(({ said }) => tell('page', said()), (error) => tell('page', String(error)));
-  const code = "import('" + location.origin + "/test/browser.mjs').then(({ said }) => postMessage(said()), "
+  const place = new URL('./test/browser.mjs', location.href);
+  const code = "import('" + place + "').then(({ said }) => postMessage(said()), "
     + "(error) => postMessage(String(error)))";
   const worker = new Worker(URL.createObjectURL(new Blob([code], { type: 'text/javascript' })), { type: 'module' });
   worker.onmessage = ({ data }) => tell('worker', data);

@@ -1,4 +1,4 @@
-// A host's doubles as the numbers that calls take. What is no such number becomes one that no limit allows, so that the call itself refuses it.
+// A host's doubles as the numbers that calls take, and whether a record's fields hold them. What is no such number becomes one that no limit allows, so that the call itself refuses it.
 ghost use mathlib.Core.Path.{_≡_};
 ghost use Rattle.meaning.specs.Refusals.{firstOf};
 ghost use Rattle.meaning.specs.Arguments.{wholeOf, countOf, planIn};
