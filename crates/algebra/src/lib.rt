@@ -1,1 +1,3 @@
 // Laws of whole numbers only: see specs/.
+#![tactic(auto)]
+

@@ -1,2 +1,4 @@
 // What a host is told.
+#![tactic(auto)]
+
 pub mod inner;

@@ -1,2 +1,4 @@
 // What a host's doubles are taken as.
+#![tactic(auto)]
+
 pub mod inner;

@@ -1,4 +1,6 @@
 // Runs test vectors through the public calls: a stream of words in, a line a call out.
+#![tactic(auto)]
+
 ghost use Rattle.std.specs.Prelude.{length};
 ghost use Rattle.calls.specs.Rooms.{Rooms};
 

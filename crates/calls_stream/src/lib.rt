@@ -1,2 +1,4 @@
 // The driver's stream: words in, lines out.
+#![tactic(auto)]
+
 pub mod inner;

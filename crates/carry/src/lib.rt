@@ -1,4 +1,6 @@
 // Results as whole numbers that add up: what a cell leaves of its quotient is carried on to the next.
+#![tactic(auto)]
+
 ghost use Rattle.meaning.specs.Carry as meant;
 ghost use Rattle.plan.specs.Structs.{stages_of};
 ghost use Rattle.carry.specs.Structs.{answer_of};
@@ -9,7 +11,7 @@ use plan::Plan;
 mod carrying;
 
 // What a call answers. The carry is what the last cell left, from 0 to the divisor less one, and 0 when refused.
-#[derive(Drop)]
+#[derive(Clone, Copy)]
 pub struct Carried {
     pub number: u64,
     pub position: usize,

@@ -1,5 +1,7 @@
 // The calls as other languages have them. Every number that a host gives is a double, a plan a slice of four; what is no whole number within the limits
 // is refused by its own number. What is answered is the number returned, and the rest is written through what the host lends. A refused call changes no cell.
+#![tactic(auto)]
+
 ghost use Rattle.std.specs.Prelude.{◌≡◌, length, pos};
 ghost use Rattle.std.specs.Float.{binary64};
 ghost use Rattle.std.specs.Float.Ieee.{of_int};

@@ -1,4 +1,6 @@
 // An edit of a stored smoothing: one sample, and the results within its reach.
+#![tactic(auto)]
+
 ghost use Rattle.meaning.specs.Extension.{fold};
 ghost use Rattle.meaning.specs.Calls.{edit_series};
 ghost use Rattle.plan.specs.Structs.{stages_of, edit_answer};

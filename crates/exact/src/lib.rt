@@ -1,4 +1,6 @@
 // Results as doubles that are the same numbers, and back.
+#![tactic(auto)]
+
 ghost use Rattle.meaning.specs.Exact as meant;
 ghost use Rattle.plan.specs.Structs.{answer_of, checked_answer};
 ghost use Rattle.plan.specs.Contract.{Gives};

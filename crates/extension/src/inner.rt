@@ -6,7 +6,7 @@ ghost use Rattle.theory.specs.Walk.{Stands};
 ghost use Rattle.extension.specs.Source.{source};
 
 // A whole number from 0 on: so many whole periods, and its place.
-#[derive(Drop)]
+#[derive(Clone, Copy)]
 pub struct Periods {
     pub whole: usize,
     pub rest: usize,

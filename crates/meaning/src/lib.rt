@@ -1,1 +1,3 @@
 // Definitions only: see specs/.
+#![tactic(auto)]
+

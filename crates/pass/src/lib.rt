@@ -1,4 +1,6 @@
 // A pass over a series. Nothing here is a public call.
+#![tactic(auto)]
+
 mod ends;
 pub mod inner;
 mod middle;

@@ -1,4 +1,6 @@
 // Smoothing a picture.
+#![tactic(auto)]
+
 ghost use Rattle.meaning.specs.Extension.{fold};
 ghost use Rattle.meaning.specs.Calls.{smooth_picture};
 ghost use Rattle.plan.specs.Structs.{stages_of, checked_answer};

@@ -12,8 +12,8 @@ use crate::Plan;
 
 // No code calls this: it is proved, so that each constant is the number of the definitions.
 fn limits_agree()
-    ensures* fact { do ⌜ (least ≡ (← (⟦Plan::LEAST⟧).entry)) × (max_passes ≡ (← (⟦Plan::MAX_PASSES⟧).entry)) × (max_radius ≡ (← (⟦Plan::MAX_RADIUS⟧).entry)) × (max_inner ≡ (← (⟦Plan::MAX_INNER⟧).entry)) ⌝ }
-    ensures* fact_2 { do ⌜ (max_bound ≡ (← (⟦Plan::MAX_BOUND⟧).entry)) × (max_result ≡ (← (⟦Plan::MAX_RESULT⟧).entry)) × (max_length ≡ (← (⟦Plan::MAX_LENGTH⟧).entry)) × (max_side ≡ (← (⟦Plan::MAX_SIDE⟧).entry)) ⌝ }
+    ensures plans { (least ≡ Plan.LEAST) × (max_passes ≡ Plan.MAX_PASSES) × (max_radius ≡ Plan.MAX_RADIUS) × (max_inner ≡ Plan.MAX_INNER) }
+    ensures sizes { (max_bound ≡ Plan.MAX_BOUND) × (max_result ≡ Plan.MAX_RESULT) × (max_length ≡ Plan.MAX_LENGTH) × (max_side ≡ Plan.MAX_SIDE) }
 {}
 
 // Is x not from low to high?

@@ -1,4 +1,6 @@
 // A plan, its limits, and what calls answer.
+#![tactic(auto)]
+
 ghost use Rattle.std.specs.Prelude.{◌≡◌};
 ghost use Rattle.meaning.specs.Refusals.{plan_divisor, plan_reach};
 ghost use Rattle.plan.specs.Structs.{stages_of};
@@ -6,7 +8,7 @@ ghost use Rattle.plan.specs.Structs.{stages_of};
 pub mod inner;
 
 // Radius r, inner weight b, edge weight a, passes K. Any numbers: a call that takes a plan judges it.
-#[derive(Drop)]
+#[derive(Clone, Copy)]
 pub struct Plan {
     pub radius: u64,
     pub inner: u64,
@@ -15,14 +17,14 @@ pub struct Plan {
 }
 
 // Number 0 is done. The position is 0 but at 12.
-#[derive(Drop)]
+#[derive(Clone, Copy)]
 pub struct Answer {
     pub number: u64,
     pub position: usize,
 }
 
 // What a call answers that tests samples. Of those it tests, position is the first that is not acceptable, and bad how many are not: both are 0 but at 11.
-#[derive(Drop)]
+#[derive(Clone, Copy)]
 pub struct Checked {
     pub number: u64,
     pub position: usize,
@@ -30,7 +32,7 @@ pub struct Checked {
 }
 
 // What an edit answers. The count is of results changed, 0 when refused; bad is 1 at 11, else 0.
-#[derive(Drop)]
+#[derive(Clone, Copy)]
 pub struct Edited {
     pub number: u64,
     pub position: usize,
@@ -39,7 +41,7 @@ pub struct Edited {
 }
 
 // What a point answers: the smoothed value, or a refusal with its number, index, and how many samples within reach are bad.
-#[derive(Drop)]
+#[derive(Clone, Copy)]
 pub enum Point {
     Value(f64),
     Refused(u64, usize, usize),

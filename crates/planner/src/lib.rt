@@ -1,4 +1,6 @@
 // From a standard deviation to a plan's radius and edge weight.
+#![tactic(auto)]
+
 ghost use Rattle.std.specs.Prelude.{◌≡◌};
 ghost use Rattle.meaning.specs.Planner.{plan_for};
 ghost use Rattle.planner.specs.Structs.{planned_of};
@@ -7,7 +9,7 @@ mod rule;
 mod testing;
 
 // Radius and edge weight of the plan found; both 0 where the number is not 0.
-#[derive(Drop)]
+#[derive(Clone, Copy)]
 pub struct Planned {
     pub number: u64,
     pub radius: u64,

@@ -1,4 +1,6 @@
 // The smoothed value at one point, from the samples within its reach.
+#![tactic(auto)]
+
 ghost use Rattle.meaning.specs.Extension.{fold};
 ghost use Rattle.meaning.specs.Calls as C;
 ghost use Rattle.plan.specs.Structs.{stages_of};

@@ -1,1 +1,3 @@
 // Theorems over the calls' own contracts: all in specs/.
+#![tactic(auto)]
+

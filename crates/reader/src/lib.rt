@@ -1,4 +1,6 @@
 // The job record's reader.
+#![tactic(auto)]
+
 ghost use Rattle.std.specs.Prelude.{◌≡◌};
 ghost use Rattle.meaning.specs.Record as M;
 ghost use Rattle.record.specs.Structs.{job_of};

@@ -6,14 +6,14 @@ ghost use Rattle.reader.specs.Reading.{number_field, samples_field};
 use record::Job;
 
 // The number in a field, and the place behind it.
-#[derive(Drop)]
+#[derive(Clone, Copy)]
 pub(crate) enum Field {
     Number(u64, usize),
     Other,
 }
 
 // Where the samples start, and how many bytes they are.
-#[derive(Drop)]
+#[derive(Clone, Copy)]
 pub(crate) enum Stretch {
     Samples(usize, usize),
     Other,

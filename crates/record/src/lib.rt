@@ -1,4 +1,6 @@
 // What a job record holds.
+#![tactic(auto)]
+
 ghost use Rattle.std.specs.Prelude.{◌≡◌, min};
 ghost use Rattle.meaning.specs.Limits.{max_samples};
 ghost use Rattle.meaning.specs.Record as M;
@@ -7,7 +9,7 @@ pub mod inner;
 
 // What the reader answers: the numbers, and the stretch of the record that holds the samples, in bytes.
 // Number 0 is done. At 14 every number is 0 and the stretch is empty.
-#[derive(Drop)]
+#[derive(Clone, Copy)]
 pub struct Job {
     pub number: u64,
     pub radius: u16,

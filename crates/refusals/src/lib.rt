@@ -1,3 +1,5 @@
 // The tests that calls share. Nothing here is a public call.
+#![tactic(auto)]
+
 mod bad;
 pub mod inner;

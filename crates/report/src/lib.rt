@@ -1,2 +1,4 @@
 // The text that the program prints. Nothing here is a public call.
+#![tactic(auto)]
+
 pub mod inner;

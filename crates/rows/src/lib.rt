@@ -1,2 +1,4 @@
 // The rows of a picture. Nothing here is a public call.
+#![tactic(auto)]
+
 pub mod inner;

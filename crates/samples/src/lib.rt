@@ -1,4 +1,6 @@
 // Doubles taken as samples.
+#![tactic(auto)]
+
 ghost use Rattle.meaning.specs.Values as meant;
 ghost use Rattle.plan.specs.Structs.{checked_answer};
 ghost use Rattle.plan.specs.Contract.{Gives};

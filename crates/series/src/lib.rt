@@ -1,4 +1,6 @@
 // Smoothing a series.
+#![tactic(auto)]
+
 ghost use Rattle.meaning.specs.Extension.{fold};
 ghost use Rattle.meaning.specs.Calls.{smooth_series};
 ghost use Rattle.plan.specs.Structs.{stages_of, checked_answer};

@@ -1,4 +1,6 @@
 // Reads one job from standard input, smooths it, and prints the results.
+#![tactic(auto)]
+
 ghost use Rattle.std.specs.Prelude.{◌≡◌, suc, length};
 ghost use Rattle.meaning.specs.Limits.{max_job};
 

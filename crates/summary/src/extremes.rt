@@ -11,7 +11,7 @@ use crate::Summary;
 use plan::Answer;
 
 // A result and its index.
-#[derive(Drop)]
+#[derive(Clone, Copy)]
 struct Found {
     at: usize,
     value: i64,

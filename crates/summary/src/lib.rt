@@ -1,4 +1,6 @@
 // The lowest and the highest of results.
+#![tactic(auto)]
+
 ghost use Rattle.std.specs.Prelude.{◌≡◌};
 ghost use Rattle.meaning.specs.Values as meant;
 ghost use Rattle.plan.specs.Structs.{stages_of};
@@ -9,7 +11,7 @@ use plan::Plan;
 mod extremes;
 
 // The lowest and the highest result as doubles, and the first index of each. Refused, plus zero and 0.
-#[derive(Drop)]
+#[derive(Clone, Copy)]
 pub struct Summary {
     pub number: u64,
     pub position: usize,

@@ -98,6 +98,7 @@ first_applies (row ∷ rows) h = go row.applies refl (first_applies rows) h
 
 lowest_from : (m : ℕ) (rows : List Row) {n : ℕ} → T (rises_from m rows) → Applies n rows → ((first_of rows).number ≤ n) × (m < n)
 unfolding first_of
+lowest_from m [] t k = elim k [ ]
 lowest_from m (row ∷ rows) t (here e h) = rw (h) (omega (arith, (split_lt m row.answer.number (rises_from row.answer.number rows) t).0))
 lowest_from m (row ∷ rows) {n} t (later k) =
     let (l, u) = split_lt m row.answer.number (rises_from row.answer.number rows) t in
@@ -146,6 +147,7 @@ number_zero e z = sym (ap (λ (x : Answer). x.number) e) ∙ z
 
 -- ---- done exactly where no row applies
 off_none : (rows : List Row) {n : ℕ} → Off rows → Applies n rows → ⊥
+off_none [] h k = elim k [ ]
 off_none (row ∷ rows) h (here e k) = true≢false (sym k ∙ h.0)
 off_none (row ∷ rows) h (later k) = off_none rows h.1 k
 
@@ -280,10 +282,10 @@ lower_step r a b c false true l low-a low-b k = (λ h. absurd (omega (arith, h l
 lower_step r a b c false false l low-a low-b k = k
 
 -- the numbers rise from above m
-pub two_lower : (m : ℕ) {A : Type 0} (tests : List (ℕ × (A → Bool))) (x y : A) → ((xs : List A) → T (rises_from m (rows_of tests xs))) → Lower (first_of (rows_of tests (x ∷ []))) (first_of (rows_of tests (y ∷ []))) (first_of (rows_of tests (x ∷ y ∷ [])))
+pub two_lower : {A : Type 0} (m : ℕ) (tests : List (ℕ × (A → Bool))) (x y : A) → ((xs : List A) → T (rises_from m (rows_of tests xs))) → Lower (first_of (rows_of tests (x ∷ []))) (first_of (rows_of tests (y ∷ []))) (first_of (rows_of tests (x ∷ y ∷ [])))
 unfolding first_of some
 two_lower m [] x y t = (λ h. refl, λ h. refl)
-two_lower m {A} ((n, test) ∷ tests) x y t =
+two_lower {A} m ((n, test) ∷ tests) x y t =
     let u : (xs : List A) → (m < n) × T (rises_from n (rows_of tests xs)) = λ xs. split_lt m n (rises_from n (rows_of tests xs)) (t xs) in
     lower_step _ _ _ _ (test x) (test y) (omega (arith, (u []).0)) (first_above n (rows_of tests (x ∷ [])) (u _).1) (first_above n (rows_of tests (y ∷ [])) (u _).1) (two_lower n tests x y (λ xs. (u xs).1))
 

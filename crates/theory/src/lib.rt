@@ -1,1 +1,3 @@
 // Laws of the definitions only: see specs/.
+#![tactic(auto)]
+

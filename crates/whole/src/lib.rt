@@ -1,4 +1,6 @@
 // Results as whole numbers.
+#![tactic(auto)]
+
 ghost use Rattle.meaning.specs.Values as meant;
 ghost use Rattle.plan.specs.Structs.{stages_of, answer_of};
 ghost use Rattle.plan.specs.Contract.{Gives};

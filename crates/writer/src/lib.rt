@@ -1,4 +1,6 @@
 // The job record's writer.
+#![tactic(auto)]
+
 ghost use Rattle.meaning.specs.Record as M;
 ghost use Rattle.plan.specs.Structs.{answer_of};
 ghost use Rattle.writer.specs.Contract.{Writes};
