@@ -1,7 +1,6 @@
 -- Rows 1 to 8, and where none applies row 12.
 use mathlib.Core.Bool.{◌||◌}
 use lib.ListN.{length}
-use borrow.Author.Rules.{rules}
 use Rattle.meaning.specs.Refusals.{differs, picture_of}
 use Rattle.meaning.specs.Bounds.{AllowedSides}
 use Rattle.theory.specs.Accepted.{sides_tested}

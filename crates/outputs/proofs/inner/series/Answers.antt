@@ -1,7 +1,6 @@
 -- Rows 1 to 8, and where none applies row 12.
 use mathlib.Core.Path.{refl}
 use lib.ListN.{length}
-use borrow.Author.Rules.{rules}
 use Rattle.meaning.specs.Refusals.{differs, series_of}
 use Rattle.theory.specs.Accepted.{length_tested}
 use Rattle.plan.specs.Structs.{stages_of}
