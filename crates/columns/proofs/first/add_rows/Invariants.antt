@@ -1,16 +1,8 @@
 -- Before turn k, the first k rows are added.
-use Prim.Native.Nat.{◌+◌, ◌-◌, ◌≤◌}
-use mathlib.Core.Path.{◌≡◌, sym, ◌∙◌, ap}
-use native.Mathlib.Omega.{arith}
-use lib.ListN.{length}
-use mir.Syntax.{w64}
-use mir.Val.{to_z, of_z}
-use mir.Facts.{to_z-of_z}
-use borrow.Author.Rules.{rules}
+use Prim.Native.Nat.{◌-◌, ◌≤◌}
+use mathlib.Core.Path.{◌≡◌}
 use Rattle.meaning.specs.Smoothing.{list_of}
-use Rattle.theory.specs.Lists.{length_list_of}
 use Rattle.columns.specs.Ready.{rows_added}
-use Rattle.columns.specs.Adding.{Adds, rows_none, rows_next}
 use Rattle.columns.proofs.first.add_rows.Given as goal
 
 abbrev pub invariant-loop-k : goal.invariant-loop-k

@@ -5,12 +5,11 @@ use lib.IntN.{pos}
 use mir.Syntax.{w64}
 use mir.Val.{to_z}
 use mir.Facts.{to_z_pos}
-use borrow.Author.Rules.{rules}
 use Rattle.meaning.specs.Kernel.{pass_at}
 use Rattle.plan.specs.Structs.{stage_of}
 use Rattle.columns.specs.Ready.{line, sides}
 use Rattle.columns.specs.Adding.{Adds, AddsRows}
-use Rattle.columns.specs.First.{period_fits, lower, rest_added, low_added, high_added, first_is}
+use Rattle.columns.specs.First.{lower, rest_added, low_added, high_added, first_is}
 use Rattle.columns.proofs.first.first_row.Goals as goal
 use Rattle.columns.proofs.first.first_row.Goals.{After-add_row-arg-1, After-add_row-arg-2-1, After-add_rows-arg-1}
 

@@ -1,10 +1,8 @@
 -- The fold stays below height, so the row lies within the picture.
 use Prim.Native.Nat.{◌*◌, ◌<◌}
 use mathlib.Core.Path.{ap}
-use native.Mathlib.Nat.{le-mul_of_pos_right}
 use native.Mathlib.Omega.{arith}
 use lib.IntN.{pos}
-use borrow.Author.Rules.{rules}
 use Rattle.theory.specs.HalfSample.{half_sample}
 use Rattle.theory.specs.Picture.{row_inside}
 use Rattle.columns.proofs.first.row_at.Goals as goal

@@ -8,13 +8,12 @@ use lib.IntN.{pos}
 use mir.Syntax.{w64}
 use mir.Val.{to_z}
 use mir.Facts.{to_z_pos}
-use borrow.Author.Rules.{rules}
 use Rattle.meaning.specs.Smoothing.{list_of}
 use Rattle.theory.specs.Lists.{list_of_const}
 use Rattle.plan.specs.Structs.{stage_of}
 use Rattle.columns.specs.Ready.{line, sides}
 use Rattle.columns.specs.Adding.{AddsRows}
-use Rattle.columns.specs.First.{period_fits, periods_none, periods_added}
+use Rattle.columns.specs.First.{periods_none, periods_added}
 use Rattle.columns.proofs.first.whole_periods.Goals as goal
 use Rattle.columns.proofs.first.whole_periods.Goals.{After-add_rows-arg-1, After-clear, After-struct_known-1}
 

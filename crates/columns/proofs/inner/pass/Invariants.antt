@@ -1,17 +1,9 @@
 -- Before turn y, rows 0 to y are those of the pass; low and enters are where the rows before and after the window stand.
 use Prim.Native.Nat.{◌+◌, ◌*◌, ◌-◌, ◌≤◌}
-use mathlib.Core.Path.{◌≡◌, refl}
-use native.Mathlib.Nat.{mul-le-mul_left}
-use native.Mathlib.Omega.{arith}
+use mathlib.Core.Path.{◌≡◌}
 use lib.ListN.{length, take}
-use borrow.Author.Rules.{rules}
-use Rattle.theory.specs.Fill.{fill_done}
-use Rattle.theory.specs.Picture.{length_down, row_inside}
 use Rattle.pass.specs.Ready.{Beside}
-use Rattle.pass.specs.Walking.{beside_start, beside_next}
 use Rattle.columns.specs.Ready.{passed}
-use Rattle.columns.specs.First.{same_room, period_fits, first_written}
-use Rattle.columns.specs.Down.{around}
 use Rattle.columns.proofs.inner.pass.Given as goal
 
 abbrev pub invariant-loop-y : goal.invariant-loop-y

@@ -2,7 +2,6 @@
 use mathlib.Core.Path.{◌∙◌, ap}
 use lib.ListN.{set}
 use lib.IntN.{pos}
-use borrow.Author.Rules.{rules}
 use Rattle.taps.specs.Taps.{taps_of_none}
 use Rattle.taps.proofs.inner.no_stages.Goals as goal
 

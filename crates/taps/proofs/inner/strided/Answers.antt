@@ -1,14 +1,10 @@
 -- The sum so far and what is still to come make the whole.
-use Prim.Native.Nat.{◌-◌}
-use mathlib.Core.Path.{◌≡◌, refl, ◌∙◌}
+use mathlib.Core.Path.{◌∙◌}
 use native.Mathlib.Omega.{arith}
-use lib.ListN.{length}
-use lib.IntN.{◌+ℤ◌}
 use mir.Syntax.{w64}
-use mir.Val.{to_z}
 use mir.Facts.{to_z-of_z}
-use borrow.Author.Rules.{rules, sfits_of}
-use Rattle.taps.specs.Weigh.{strided_in, Stridable, strided_rest, strided_next, strided_fits, strided_end}
+use borrow.Author.Rules.{sfits_of}
+use Rattle.taps.specs.Weigh.{strided_rest, strided_next, strided_fits, strided_end}
 use Rattle.taps.proofs.inner.strided.Goals as goal
 
 pub overflow_add-s : goal.overflow_add-s

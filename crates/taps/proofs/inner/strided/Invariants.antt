@@ -1,14 +1,9 @@
 -- The sum so far and what is still to come make the whole.
 use Prim.Native.Nat.{◌-◌}
-use mathlib.Core.Path.{◌≡◌, refl, ◌∙◌}
-use native.Mathlib.Omega.{arith}
+use mathlib.Core.Path.{◌≡◌}
 use lib.ListN.{length}
 use lib.IntN.{◌+ℤ◌}
-use mir.Syntax.{w64}
-use mir.Val.{to_z}
-use mir.Facts.{to_z-of_z}
-use borrow.Author.Rules.{rules, sfits_of}
-use Rattle.taps.specs.Weigh.{strided_in, Stridable, strided_rest, strided_next, strided_fits, strided_end}
+use Rattle.taps.specs.Weigh.{strided_in, Stridable}
 use Rattle.taps.proofs.inner.strided.Given as goal
 
 abbrev pub invariant-loop-i : goal.invariant-loop-i

@@ -2,7 +2,6 @@
 use Prim.Native.Nat.{◌+◌}
 use mathlib.Core.Path.{◌∙◌, ap}
 use native.Mathlib.Omega.{arith}
-use borrow.Author.Rules.{rules}
 use Rattle.theory.specs.Accepted.{accepted_reach}
 use Rattle.theory.specs.Farthest.{reach_most}
 use Rattle.plan.specs.Structs.{stage_of, stages_of}
