@@ -1,0 +1,34 @@
+-- Before turn i the first i cells hold their samples.
+use mathlib.Core.Path.{◌≡◌, refl, sym, ◌∙◌}
+use Prim.Native.Nat.{◌-◌, ◌≤◌}
+use native.Mathlib.Omega.{arith}
+use borrow.Author.Rules.{rules, sfits_of}
+use lib.ListN.{length, take, length-set}
+use mir.Facts.{to_z-of_z}
+use Rattle.meaning.specs.Smoothing.{list_of}
+use Rattle.meaning.specs.Record.{sample_at}
+use Rattle.theory.specs.Fill.{fill_next, fill_done}
+use Rattle.theory.specs.Lists.{length_list_of, at_list_of}
+use Rattle.record.proofs.inner.load.Goals as goal
+
+-- NO GOAL add-i overflow-add-i
+
+pub loop-i-preserved : goal.loop-i-preserved
+loop-i-preserved c =
+    let a = c.args in
+    let l = c.loop-i in
+    let N = length a.samples.now in
+    let size = length_list_of N (sample_at a.stretch.now) in (
+      omega arith,
+      simp length-set l.invariant.1,
+      fill_next (list_of N (sample_at a.stretch.now)) l.samples l.i l.invariant.2 _ (omega arith) (omega (arith, size)) (to_z-of_z (sfits_of c.sample-v.type_inv) ∙ c.sample-v.ensures ∙ sym (at_list_of N (sample_at a.stretch.now) l.i (omega arith))),
+    )
+
+-- NO GOAL same_length same-length
+
+pub returns : goal.returns
+returns c =
+    let a = c.args in
+    let l = c.loop-i in
+    let t = list_of (length a.samples.now) (sample_at a.stretch.now) in
+    fill_done t l.samples l.i l.invariant.2 (omega arith) (omega (arith, length_list_of (length a.samples.now) (sample_at a.stretch.now)))
