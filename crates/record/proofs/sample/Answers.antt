@@ -8,7 +8,7 @@ use mir.Facts.{to_z-of_z}
 use Rattle.meaning.specs.Encoding.{Bytes}
 use Rattle.theory.specs.Encoding.{number_part}
 use Rattle.theory.specs.Records.{sample_at_in, sample_at_past}
-use borrow.Author.Rules.{rules, sfits_of}
+use borrow.Author.Rules.{sfits_of}
 use Rattle.record.proofs.sample.Goals as goal
 
 pub overflow_cast-number_at : goal.overflow_cast-number_at
@@ -19,7 +19,7 @@ overflow_cast-number_at c =
 pub returns-then-i-stretch : goal.returns-then-i-stretch
 returns-then-i-stretch c =
     let a = c.args in
-    to_z-of_z (sfits_of c.signed.type_inv) ∙ c.signed.ensures ∙ ap (to_z w32) c.number_at.ensures ∙ sym (sample_at_in a.stretch.now a.i c.if-i-stretch.true)
+    to_z-of_z {w = w32} (sfits_of c.signed.type_inv) ∙ c.signed.ensures ∙ ap (to_z w32) c.number_at.ensures ∙ sym (sample_at_in a.stretch.now a.i c.if-i-stretch.true)
 
 pub returns : goal.returns
 returns c =

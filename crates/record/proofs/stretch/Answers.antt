@@ -7,7 +7,6 @@ use native.Mathlib.Omega.{arith}
 use lib.ListN.{length, take, drop, length-drop, drop_of_length-le}
 use lib.Seq.{take_all}
 use Rattle.meaning.specs.Record.{stretch}
-use borrow.Author.Rules.{rules}
 use Rattle.record.proofs.stretch.Goals as goal
 
 take_least : (n : ℕ) (l : List ℕ) {k : ℕ} → k ≡ min n (length l) → take k l ≡ take n l

@@ -1,17 +1,15 @@
 -- Before turn i the first i cells hold their samples.
-use mathlib.Core.Path.{◌≡◌, refl, sym, ◌∙◌}
-use Prim.Native.Nat.{◌-◌, ◌≤◌}
+use mathlib.Core.Path.{sym, ◌∙◌}
 use native.Mathlib.Omega.{arith}
-use borrow.Author.Rules.{rules, sfits_of}
-use lib.ListN.{length, take, length-set}
+use borrow.Author.Rules.{sfits_of}
+use lib.ListN.{length, length-set}
+use mir.Syntax.{w32}
 use mir.Facts.{to_z-of_z}
 use Rattle.meaning.specs.Smoothing.{list_of}
 use Rattle.meaning.specs.Record.{sample_at}
 use Rattle.theory.specs.Fill.{fill_next, fill_done}
 use Rattle.theory.specs.Lists.{length_list_of, at_list_of}
 use Rattle.record.proofs.inner.load.Goals as goal
-
--- NO GOAL add-i overflow-add-i
 
 pub loop-i-preserved : goal.loop-i-preserved
 loop-i-preserved c =
@@ -21,10 +19,8 @@ loop-i-preserved c =
     let size = length_list_of N (sample_at a.stretch.now) in (
       omega arith,
       simp length-set l.invariant.1,
-      fill_next (list_of N (sample_at a.stretch.now)) l.samples l.i l.invariant.2 _ (omega arith) (omega (arith, size)) (to_z-of_z (sfits_of c.sample-v.type_inv) ∙ c.sample-v.ensures ∙ sym (at_list_of N (sample_at a.stretch.now) l.i (omega arith))),
+      fill_next (list_of N (sample_at a.stretch.now)) l.samples l.i l.invariant.2 _ (omega arith) (omega (arith, size)) (to_z-of_z {w = w32} (sfits_of c.sample-v.type_inv) ∙ c.sample-v.ensures ∙ sym (at_list_of N (sample_at a.stretch.now) l.i (omega arith))),
     )
-
--- NO GOAL same_length same-length
 
 pub returns : goal.returns
 returns c =

@@ -1,14 +1,9 @@
 -- Before turn i the first i cells hold their samples.
-use mathlib.Core.Path.{◌≡◌, refl, sym, ◌∙◌}
+use mathlib.Core.Path.{◌≡◌}
 use Prim.Native.Nat.{◌-◌, ◌≤◌}
-use native.Mathlib.Omega.{arith}
-use borrow.Author.Rules.{rules, sfits_of}
-use lib.ListN.{length, take, length-set}
-use mir.Facts.{to_z-of_z}
+use lib.ListN.{length, take}
 use Rattle.meaning.specs.Smoothing.{list_of}
 use Rattle.meaning.specs.Record.{sample_at}
-use Rattle.theory.specs.Fill.{fill_next, fill_done}
-use Rattle.theory.specs.Lists.{length_list_of, at_list_of}
 use Rattle.record.proofs.inner.load.Given as goal
 
 abbrev pub invariant-loop-i : goal.invariant-loop-i
