@@ -1,13 +1,8 @@
 -- What was put so far is the front of the text.
-use mathlib.Core.Path.{◌≡◌, refl}
-use mathlib.Core.List.{List, [], ◌∷◌, ◌++◌}
-use Prim.Native.Nat.{ℕ, ◌+◌, ◌-◌, ◌≤◌, ◌<◌}
-use native.Mathlib.Numerals.{add-one}
-use native.Mathlib.Omega.{arith}
-use borrow.Author.Rules.{rules}
-use lib.ListN.{length, take, get_or}
-use lib.Seq.{length-take-le, take-suc, take_all}
-use Rattle.encoding.specs.Append.{Appended, append_none, append_then}
+use mathlib.Core.Path.{◌≡◌}
+use Prim.Native.Nat.{◌-◌, ◌≤◌}
+use lib.ListN.{length, take}
+use Rattle.encoding.specs.Append.{Appended}
 use Rattle.text.proofs.inner.put_text.Given as goal
 
 abbrev pub invariant-loop-i : goal.invariant-loop-i
