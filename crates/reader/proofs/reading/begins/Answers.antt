@@ -6,7 +6,6 @@ use lib.ListN.{take, drop, length-drop}
 use lib.Seq.{drop-drop}
 use Rattle.meaning.specs.Encoding.{number}
 use Rattle.reader.specs.Reading.{begins_short, begins_other, begins_tagged}
-use borrow.Author.Rules.{rules}
 use Rattle.reader.proofs.reading.begins.Goals as goal
 
 pub returns-then-bytes-at : goal.returns-then-bytes-at

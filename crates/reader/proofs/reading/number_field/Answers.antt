@@ -5,7 +5,6 @@ use native.Mathlib.Omega.{arith}
 use lib.ListN.{drop, length-drop}
 use Rattle.reader.specs.declared.reading.Field.TheVariants as F
 use Rattle.reader.specs.Reading.{begins_within, field_yes, field_no}
-use borrow.Author.Rules.{rules}
 use Rattle.reader.proofs.reading.number_field.Goals as goal
 
 pub returns-then-not-begins : goal.returns-then-not-begins

@@ -6,7 +6,6 @@ use native.Mathlib.Omega.{arith}
 use lib.ListN.{length, length-drop}
 use Rattle.reader.specs.declared.reading.Stretch.TheVariants as S
 use Rattle.reader.specs.Reading.{left, samples_yes, samples_odd, samples_outside, samples_other}
-use borrow.Author.Rules.{rules}
 use Rattle.reader.proofs.reading.samples_field.Goals as goal
 
 -- what the code counts is what is left
