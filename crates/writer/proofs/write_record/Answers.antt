@@ -1,7 +1,6 @@
 -- Refused, nothing is written; done, the whole record.
 use lib.ListN.{length}
 use Rattle.writer.specs.Contract.{refused_writes, done_writes, asked}
-use borrow.Author.Rules.{rules}
 use Rattle.writer.proofs.write_record.Goals as goal
 
 pub returns-then-number-ne0 : goal.returns-then-number-ne0

@@ -6,7 +6,6 @@ use Rattle.meaning.specs.Record.{field}
 use Rattle.theory.specs.Encoding.{length_bytes}
 use Rattle.encoding.specs.Append.{append_then, room_first, room_rest}
 use Rattle.writer.specs.Writing.{head, field_head}
-use borrow.Author.Rules.{rules}
 use Rattle.writer.proofs.writing.put_field.Goals as goal
 use Rattle.writer.proofs.writing.put_field.Goals.{Start}
 

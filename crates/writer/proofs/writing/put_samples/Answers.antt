@@ -7,7 +7,6 @@ use Rattle.meaning.specs.Record.{field, sample_bytes}
 use Rattle.theory.specs.Records.{length_sample_bytes}
 use Rattle.encoding.specs.Append.{append_then, room_first, room_rest}
 use Rattle.writer.specs.Writing.{head, field_head}
-use borrow.Author.Rules.{rules}
 use Rattle.writer.proofs.writing.put_samples.Goals as goal
 use Rattle.writer.proofs.writing.put_samples.Goals.{Start}
 

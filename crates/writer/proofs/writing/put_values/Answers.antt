@@ -1,11 +1,10 @@
 -- What was put so far is the bytes of the samples passed.
-use mathlib.Core.Path.{◌≡◌, refl, sym, ◌∙◌, ap}
+use mathlib.Core.Path.{refl, sym, ◌∙◌, ap}
 use mathlib.Core.List.{◌++◌}
-use Prim.Native.Nat.{◌-◌, ◌≤◌}
 use native.Mathlib.Omega.{arith}
-use borrow.Author.Rules.{rules, sfits_of}
-use lib.ListN.{length, take}
-use lib.Seq.{length-take-le, take_all}
+use borrow.Author.Rules.{sfits_of}
+use lib.ListN.{take}
+use lib.Seq.{length-take-le}
 use mir.Syntax.{w32}
 use mir.Val.{of_z}
 use mir.Facts.{to_z-of_z}
@@ -14,7 +13,7 @@ use Rattle.meaning.specs.Encoding.{bytes}
 use Rattle.meaning.specs.Record.{sample_bytes}
 use Rattle.theory.specs.Encoding.{length_bytes}
 use Rattle.theory.specs.Records.{length_sample_bytes, sample_bytes_next}
-use Rattle.encoding.specs.Append.{Appended, append_none, append_then}
+use Rattle.encoding.specs.Append.{append_none, append_then}
 use Rattle.writer.proofs.writing.put_values.Goals as goal
 
 pub loop-i-init : goal.loop-i-init

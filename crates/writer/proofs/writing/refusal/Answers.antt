@@ -1,9 +1,7 @@
 -- Row by row.
 use mathlib.Core.Path.{refl, sym, ◌∙◌}
 use Prim.Native.Nat.{◌≤◌}
-use native.Mathlib.Omega.{arith}
 use borrow.Author.Tests.{eq-eqb, ne_eqb}
-use borrow.Author.Rules.{rules}
 use Rattle.meaning.specs.Refusals as R
 use Rattle.theory.specs.Tests.{outside_no}
 use Rattle.writer.proofs.writing.refusal.Goals as goal
