@@ -16,7 +16,7 @@ returns-then-bytes-at c =
 pub returns-then-number_at-tag : goal.returns-then-number_at-tag
 returns-then-number_at-tag c =
     let a = c.args in
-    sym (begins_other a.tag a.size (drop a.at a.bytes.now) (λ e. c.if-number_at-tag.true (c.number_at.ensures ∙ e)))
+    sym (begins_other a.tag a.size (drop a.at a.bytes.now) (λ e. omega (arith, e, c.if-number_at-tag.true, c.number_at.ensures)))
 
 pub returns : goal.returns
 returns c =
