@@ -2,7 +2,7 @@
 import { spawnSync } from 'node:child_process';
 import { closeSync, openSync, readFileSync, readSync, realpathSync } from 'node:fs';
 import { availableParallelism, cpus, release, totalmem, type } from 'node:os';
-import { delimiter, join } from 'node:path';
+import { delimiter, dirname, join } from 'node:path';
 
 export function said(command, words) {
   const { status, stdout } = spawnSync(command, words, { encoding: 'utf8', env: { ...process.env, LC_ALL: 'C' } });
@@ -84,9 +84,8 @@ export function python() {
 }
 
 function kitClang() {
-  const home = process.env.RATTLE_HOME ?? said('rt', ['doc'])?.replace(/\/docs\/START-HERE\.md$/, '');
-  if (!home) return null;
-  return versionOf(join(home, 'on', said('uname', ['-m']) ?? '', 'toolchain/bin/clang'));
+  const guide = said('rt', ['doc']);
+  return guide === null ? null : versionOf(join(dirname(guide), 'toolchain/bin/clang'));
 }
 
 // hosts/build notes for which processor it compiled.

@@ -3,7 +3,7 @@
 // each row of the tables of what a host's numbers are taken as.
 // The equations stand in a crate of a temporary repository; nothing of them is kept.
 import { spawnSync } from 'node:child_process';
-import { cpSync, mkdirSync, mkdtempSync, rmSync, writeFileSync } from 'node:fs';
+import { cpSync, existsSync, mkdirSync, mkdtempSync, rmSync, writeFileSync } from 'node:fs';
 import { tmpdir } from 'node:os';
 import { dirname, join } from 'node:path';
 import { fileURLToPath } from 'node:url';
@@ -60,10 +60,10 @@ function quick(cells, ...plans) {
 // A call that is refused need not be computed whole: its rows decide.
 
 const outcomeIs = (call, out, fields) => `${call} ≡ ${record({ answer: answerOf(out), ...fields })}`;
-const answerIs = (rows, out) => `firstOf (${rows}) ≡ ${answerOf(out)}`;
+const answerIs = (rows, out) => `first_of (${rows}) ≡ ${answerOf(out)}`;
 
-const series = ({ plan }, slice) => `(seriesOf ${planOf(plan)} ${slice.length})`;
-const picture = ({ across, down, width, height }) => `(pictureOf ${planOf(across)} ${planOf(down)} ${width} ${height})`;
+const series = ({ plan }, slice) => `(series_of ${planOf(plan)} ${slice.length})`;
+const picture = ({ across, down, width, height }) => `(picture_of ${planOf(across)} ${planOf(down)} ${width} ${height})`;
 
 // Rows 1 to 8 alone, for slices too long to write down; null of a call without such rows. Of a call with a plan,
 // whether the lengths are wrong is taken from the outcome.
@@ -75,9 +75,9 @@ function longSlices(args, out) {
 
 function commonRowsOf(args, refused) {
   const { plan, across, bound, samples, results, doubles, cells } = args;
-  if (plan) return `commonRows ${series(args, samples ?? results)} ${bound} ${refused}`;
-  if (across) return `commonRows ${picture(args)} ${bound} ${refused}`;
-  return results ? `lengthRows ${(doubles ?? results).length} ${(cells ?? results).length}` : null;
+  if (plan) return `common_rows ${series(args, samples ?? results)} ${bound} ${refused}`;
+  if (across) return `common_rows ${picture(args)} ${bound} ${refused}`;
+  return results ? `length_rows ${(doubles ?? results).length} ${(cells ?? results).length}` : null;
 }
 
 function smoothed(call, shape, { bound, samples, results, work }, out, isQuick) {
@@ -85,19 +85,19 @@ function smoothed(call, shape, { bound, samples, results, work }, out, isQuick) 
     const slices = `${wholes(samples)} ${wholes(results)} ${wholes(work)}`;
     return outcomeIs(`${call} ${slices}`, out, { results: wholes(out.results), work: wholes(out.work) });
   }
-  const rows = `smoothRows ${shape} ${bound} ${wholes(samples)} ${results.length} ${work.length}`;
+  const rows = `smooth_rows ${shape} ${bound} ${wholes(samples)} ${results.length} ${work.length}`;
   return out.number === 0n ? null : answerIs(rows, out);
 }
 
 function smoothSeries(args, out) {
   const { plan, bound, samples } = args;
-  const call = `smoothSeries fold ${planOf(plan)} ${bound}`;
+  const call = `smooth_series fold ${planOf(plan)} ${bound}`;
   return smoothed(call, series(args, samples), args, out, quick(samples.length, plan));
 }
 
 function smoothPicture(args, out) {
   const { across, down, bound, width, height, samples } = args;
-  const call = `smoothPicture fold fold ${planOf(across)} ${planOf(down)} ${bound} ${width} ${height}`;
+  const call = `smooth_picture fold fold ${planOf(across)} ${planOf(down)} ${bound} ${width} ${height}`;
   return smoothed(call, picture(args), args, out, quick(samples.length, across, down));
 }
 
@@ -105,10 +105,10 @@ function edit({ plan, bound, position, value, samples, results, work }, out) {
   const inputs = `${planOf(plan)} ${bound} ${position} (${whole(value)}) ${wholes(samples)} ${wholes(results)}`;
   if (quick(samples.length, plan)) {
     const after = { samples: wholes(out.samples), results: wholes(out.results), work: wholes(out.work) };
-    return outcomeIs(`editSeries fold ${inputs} ${wholes(work)}`, out, { count: out.count, ...after });
+    return outcomeIs(`edit_series fold ${inputs} ${wholes(work)}`, out, { count: out.count, ...after });
   }
   const untilTwelve = out.number !== 0n && out.number !== 12n;
-  return untilTwelve ? answerIs(`editRows ${inputs} ${wholes(results)} ${work.length}`, out) : null;
+  return untilTwelve ? answerIs(`edit_rows ${inputs} ${wholes(results)} ${work.length}`, out) : null;
 }
 
 function point({ plan, bound, position, samples, work }, out) {
@@ -116,12 +116,12 @@ function point({ plan, bound, position, samples, work }, out) {
   if (quick(1, plan)) {
     return outcomeIs(`point fold ${inputs} ${wholes(work)}`, out, { value: float(out.value), work: wholes(out.work) });
   }
-  return out.number === 0n ? null : answerIs(`pointRows ${inputs} ${work.length}`, out);
+  return out.number === 0n ? null : answerIs(`point_rows ${inputs} ${work.length}`, out);
 }
 
 function planner({ sigma, passes, inner }, out) {
   if (sigma > MOST_SIGMA) return null;
-  return outcomeIs(`planFor ${sigma} ${passes} ${inner}`, out, { radius: out.radius, edge: out.edge });
+  return outcomeIs(`plan_for ${sigma} ${passes} ${inner}`, out, { radius: out.radius, edge: out.edge });
 }
 
 function ofPlan(definition, name) {
@@ -129,15 +129,15 @@ function ofPlan(definition, name) {
 }
 
 function doublesIn({ bound, doubles, samples }, out) {
-  return outcomeIs(`doublesIn ${bound} ${floats(doubles)} ${wholes(samples)}`, out, { cells: wholes(out.samples) });
+  return outcomeIs(`doubles_in ${bound} ${floats(doubles)} ${wholes(samples)}`, out, { cells: wholes(out.samples) });
 }
 
 function resultsToDoubles({ results, cells }, out) {
-  return outcomeIs(`resultsToDoubles ${wholes(results)} ${floats(cells)}`, out, { cells: floats(out.cells) });
+  return outcomeIs(`results_to_doubles ${wholes(results)} ${floats(cells)}`, out, { cells: floats(out.cells) });
 }
 
 function doublesToResults({ doubles, results }, out) {
-  return outcomeIs(`doublesToResults ${floats(doubles)} ${wholes(results)}`, out, { cells: wholes(out.results) });
+  return outcomeIs(`doubles_to_results ${floats(doubles)} ${wholes(results)}`, out, { cells: wholes(out.results) });
 }
 
 function outputInputs({ plan, across, down, bound, width, height, mode = '', results }) {
@@ -160,18 +160,18 @@ function summary(definition) {
   return (args, out) => outcomeIs(`${definition} ${outputInputs(args)}`, out, {
     lowest: float(out.lowest),
     highest: float(out.highest),
-    lowestAt: out.indexOfLowest,
-    highestAt: out.indexOfHighest,
+    lowest_at: out.indexOfLowest,
+    highest_at: out.indexOfHighest,
   });
 }
 
 function readRecord({ record: bytes }, { number, length, ...numbers }) {
-  return outcomeIs(`readRecord ${naturals(bytes)}`, { number }, { size: length, ...numbers });
+  return outcomeIs(`read_record ${naturals(bytes)}`, { number }, { size: length, ...numbers });
 }
 
 function writeRecord({ radius, inner, edge, passes, bound, samples, record: bytes }, out) {
   const inputs = `${radius} ${inner} ${edge} ${passes} ${bound} ${wholes(samples)} ${naturals(bytes)}`;
-  return outcomeIs(`writeRecord ${inputs}`, out, { slice: naturals(out.record) });
+  return outcomeIs(`write_record ${inputs}`, out, { slice: naturals(out.record) });
 }
 
 function stretchOf({ record: bytes, start, size }, out) {
@@ -179,7 +179,7 @@ function stretchOf({ record: bytes, start, size }, out) {
 }
 
 function sampleOf({ index }, out) {
-  return `sampleAt ${naturals(out.stretch)} ${index} ≡ ${whole(out.sample)}`;
+  return `sample_at ${naturals(out.stretch)} ${index} ≡ ${whole(out.sample)}`;
 }
 
 // The program on a record that was read, and on the record of a series that was smoothed.
@@ -197,22 +197,22 @@ function programOfSeries({ plan, bound, samples }) {
 // What a host's numbers are taken as.
 
 function wholeTaken([double, taken]) {
-  return `wholeOf (${float(double)}) ≡ ${whole(taken)}`;
+  return `whole_of (${float(double)}) ≡ ${whole(taken)}`;
 }
 
 function countTaken([double, , taken]) {
-  return `countOf (${float(double)}) ≡ ${taken}`;
+  return `count_of (${float(double)}) ≡ ${taken}`;
 }
 
 function planTaken([doubles, [radius, inner, edge, passes]]) {
-  return `planIn ${floats(doubles)} ≡ ${record({ radius, inner, edge, passes })}`;
+  return `plan_in ${floats(doubles)} ≡ ${record({ radius, inner, edge, passes })}`;
 }
 
 function recordWritten([, plan, bound, samples, room]) {
   const lent = new Uint8Array(room).fill(170);
   const out = host.writeRecordIn({ plan, bound, samples, record: lent });
-  const numbers = `(planIn ${floats(plan)}) (countOf (${float(bound)}))`;
-  const call = `writeRecordIn ${numbers} ${wholes(samples)} ${naturals(lent)}`;
+  const numbers = `(plan_in ${floats(plan)}) (count_of (${float(bound)}))`;
+  const call = `write_record_in ${numbers} ${wholes(samples)} ${naturals(lent)}`;
   return outcomeIs(call, out, { slice: naturals(out.record) });
 }
 
@@ -223,26 +223,26 @@ const EQUATIONS = [
   [4, point],
   [5, planner],
   [6, doublesIn],
-  [7, output('wholeSeriesBy', wholes)],
-  [8, output('doublesSeries', floats)],
-  [9, summary('summarySeries')],
-  [10, output('wholePictureBy', wholes)],
-  [11, output('doublesPicture', floats)],
-  [12, summary('summaryPicture')],
+  [7, output('whole_series_by', wholes)],
+  [8, output('doubles_series', floats)],
+  [9, summary('summary_series')],
+  [10, output('whole_picture_by', wholes)],
+  [11, output('doubles_picture', floats)],
+  [12, summary('summary_picture')],
   [13, readRecord],
   [13, programOfRecord, 'program'],
   [1, programOfSeries, 'program'],
   [14, writeRecord],
-  [15, carrying('carrySeries')],
-  [16, carrying('carryPicture')],
+  [15, carrying('carry_series')],
+  [16, carrying('carry_picture')],
   [25, resultsToDoubles],
   [26, doublesToResults],
-  [100, ofPlan('planDivisor', 'divisor'), 'divisor'],
-  [100, ofPlan('planReach', 'reach'), 'reach'],
+  [100, ofPlan('plan_divisor', 'divisor'), 'divisor'],
+  [100, ofPlan('plan_reach', 'reach'), 'reach'],
   [101, stretchOf, 'stretch'],
   [101, sampleOf, 'sample'],
-  [107, output('wholeSeries', wholes)],
-  [110, output('wholePicture', wholes)],
+  [107, output('whole_series', wholes)],
+  [110, output('whole_picture', wholes)],
 ];
 
 const TABLES = [
@@ -255,40 +255,37 @@ const TABLES = [
 // The crate of equations. Every definition is opened to the prover.
 
 const OPENED = {
-  'lib.Ieee': 'ofInt div toSigned round size units odd span climb',
-  'lib.Count': 'trailingZeros',
-  'Rattle·algebra.specs.Within': 'sumWithin',
-  'Rattle·meaning.specs.Extension': 'emod reflect fold ext',
-  'Rattle·meaning.specs.Kernel': 'tap passAt kernel width reach tapSum divisor',
-  'Rattle·meaning.specs.Smoothing': 'listOf convolved result results weight near',
-  'Rattle·meaning.specs.Picture': 'pixel grid picture',
-  'Rattle·meaning.specs.Refusals': 'firstOf firstWhere countWhere rowAt some planRows sizeRows ifDone ownRows planDivisor planReach',
-  'Rattle·meaning.specs.Values':
-    'nearest even nearestEven ratio takes doubleRows doublesIn outputRows converted modeRows unbeaten summary',
-  'Rattle·meaning.specs.Carry': 'carry carryCell carried',
-  'Rattle·meaning.specs.Exact': 'lengthRows exactRows resultsToDoubles backRows doublesToResults',
-  'Rattle·meaning.specs.Calls': 'smoothRows smoothed gained editRows changed editSeries pointRows point',
-  'Rattle·meaning.specs.Planner': 'largest radiusFor nearestDown edgeFor widened stageFor plannerRows planFor',
-  'Rattle·meaning.specs.Encoding': 'bytes number text digits decimal',
-  'Rattle·meaning.specs.Record':
-    'field sampleBytes sampleAt stretch samplesOf recordOf begins reading readRecord writeRecord',
-  'Rattle·meaning.specs.Program': 'firstLine resultLines report program',
-  'Rattle·meaning.specs.Arguments': 'wholeOf unsigned countOf planIn',
-  'Rattle·meaning.specs.HostRecord': 'fieldRows writeRecordIn',
+  'Rattle.std.specs.Float.Ieee': 'of_int div to_signed round size units odd span climb',
+  'Rattle.std.specs.Int.Count': 'count_trailing_zeros',
+  'Rattle.algebra.specs.Within': 'sum_within',
+  'Rattle.meaning.specs.Extension': 'emod reflect fold ext',
+  'Rattle.meaning.specs.Kernel': 'tap pass_at kernel width reach tap_sum divisor',
+  'Rattle.meaning.specs.Smoothing': 'list_of convolved result results weight near',
+  'Rattle.meaning.specs.Picture': 'pixel grid picture',
+  'Rattle.meaning.specs.Refusals': 'first_of first_where count_where row_at some plan_rows size_rows if_done own_rows plan_divisor plan_reach',
+  'Rattle.meaning.specs.Values':
+    'nearest even nearest_even ratio takes double_rows doubles_in output_rows converted mode_rows unbeaten summary',
+  'Rattle.meaning.specs.Carry': 'carry carry_cell carried',
+  'Rattle.meaning.specs.Exact': 'length_rows exact_rows results_to_doubles back_rows doubles_to_results',
+  'Rattle.meaning.specs.Calls': 'smooth_rows smoothed gained edit_rows changed edit_series point_rows point',
+  'Rattle.meaning.specs.Planner': 'largest radius_for nearest_down edge_for widened stage_for planner_rows plan_for',
+  'Rattle.meaning.specs.Encoding': 'bytes number text digits decimal',
+  'Rattle.meaning.specs.Record':
+    'field sample_bytes sample_at stretch samples_of record_of begins reading read_record write_record',
+  'Rattle.meaning.specs.Program': 'first_line result_lines report program',
+  'Rattle.meaning.specs.Arguments': 'whole_of unsigned count_of plan_in',
+  'Rattle.meaning.specs.HostRecord': 'field_rows write_record_in',
 };
 
 const HEAD = [
-  'use mathlib.Core.Path.{_≡_, refl}',
-  'use mathlib.Core.Bool.{true, false}',
-  'use mathlib.Core.List.{[], _∷_}',
-  'use lib.IntN.{pos, negsuc}',
-  'use lib.Ieee.{nan, inf, fin}',
-  'use Rattle·meaning.specs.Kernel.{plan}',
-  'use Rattle·meaning.specs.Refusals.{seriesOf, pictureOf, commonRows}',
-  'use Rattle·meaning.specs.Values.{wholeSeries, wholeSeriesBy, doublesSeries, summarySeries}',
-  'use Rattle·meaning.specs.Values.{wholePicture, wholePictureBy, doublesPicture, summaryPicture}',
-  'use Rattle·meaning.specs.Carry.{carrySeries, carryPicture}',
-  'use Rattle·meaning.specs.Calls.{smoothSeries, smoothPicture}',
+  'use Rattle.std.specs.Prelude.{◌≡◌, refl, true, false, [], ◌∷◌, pos, negsuc}',
+  'use Rattle.std.specs.Float.{nan, inf, fin}',
+  'use Rattle.meaning.specs.Kernel.{plan}',
+  'use Rattle.meaning.specs.Refusals.{series_of, picture_of, common_rows}',
+  'use Rattle.meaning.specs.Values.{whole_series, whole_series_by, doubles_series, summary_series}',
+  'use Rattle.meaning.specs.Values.{whole_picture, whole_picture_by, doubles_picture, summary_picture}',
+  'use Rattle.meaning.specs.Carry.{carry_series, carry_picture}',
+  'use Rattle.meaning.specs.Calls.{smooth_series, smooth_picture}',
   ...Object.entries(OPENED).map(([from, names]) => `use ${from}.{${names.replaceAll(' ', ', ')}}`),
 ];
 
@@ -315,7 +312,7 @@ function ofTable([name, rows, equation]) {
 }
 
 function moduleText(equations) {
-  const theorems = equations.map((each, n) => `\ncase-${n} : ${each}\n${UNFOLDING}\ncase-${n} = refl`);
+  const theorems = equations.map((each, n) => `\ncase_${n} : ${each}\n${UNFOLDING}\ncase_${n} = refl`);
   return [...HEAD, ...theorems, ''].join('\n');
 }
 
@@ -323,14 +320,15 @@ function writeRepository(folder) {
   const root = join(dirname(fileURLToPath(import.meta.url)), '..');
   const crate = (name, ...parts) => join(folder, 'crates', name, ...parts);
   for (const name of ['algebra', 'meaning']) {
-    for (const part of ['src', 'specs']) {
-      cpSync(join(root, 'crates', name, part), crate(name, part), { recursive: true });
+    for (const part of ['src', 'specs', 'proofs']) {
+      const from = join(root, 'crates', name, part);
+      if (existsSync(from)) cpSync(from, crate(name, part), { recursive: true });
     }
   }
   mkdirSync(crate('agreement', 'src'), { recursive: true });
   mkdirSync(crate('agreement', 'specs'));
   writeFileSync(join(folder, 'crates.txt'), 'algebra:\nmeaning: algebra\nagreement: meaning algebra\n');
-  writeFileSync(crate('agreement', 'src', 'lib.rt'), '// Equations only: see specs/.\n');
+  writeFileSync(crate('agreement', 'src', 'lib.rt'), '// Equations only: see specs/.\n#![tactic(auto)]\n');
 
   let count = 0;
   const parts = [...EQUATIONS.map(ofVectors), ...TABLES.map(ofTable)];
@@ -345,10 +343,10 @@ function writeRepository(folder) {
 }
 
 function prove(folder) {
-  const options = { cwd: folder, encoding: 'utf8', maxBuffer: 2 ** 28 };
-  const { status, stdout, stderr, error } = spawnSync('rt', ['check', 'agreement'], options);
+  const options = { cwd: join(folder, 'crates', 'agreement'), encoding: 'utf8', maxBuffer: 2 ** 28 };
+  const { status, stdout, stderr, error } = spawnSync('rt', ['check'], options);
   if (error) throw error;
-  return { proved: status === 0 && /^rt: agreement proved/m.test(stdout), said: stdout + stderr };
+  return { proved: status === 0 && /^logic=proved /m.test(stdout.trimEnd().split('\n').at(-1)), said: stdout + stderr };
 }
 
 const MOST_SHOWN = 30;

@@ -20,11 +20,10 @@ function filesIn(folder, ending) {
   return names.filter((name) => name.endsWith(ending)).map((name) => `${folder}/${name}`).sort();
 }
 
-// A crate and those it may name.
-const CRATES = new Map(linesOf('crates.txt').filter((line) => /^\w+:/.test(line)).map((line) => {
-  const [crate, others] = line.split(':');
-  return [crate, [crate, ...others.split(' ').filter(Boolean)]];
-}));
+// A crate and those it may name. A static library's exports stand for the calls of the library below it.
+const LISTED = linesOf('crates.txt').map((line) => line.match(/^(\w+)( staticlib)?:(.*)$/)).filter(Boolean);
+const CRATES = new Map(LISTED.map(([, crate, , others]) => [crate, [crate, ...others.split(' ').filter(Boolean)]]));
+const EXPORTING = LISTED.filter(([, , isStatic]) => isStatic !== undefined).map(([, crate]) => crate);
 const crates = [...CRATES.keys()];
 
 let passed = 0;
@@ -96,12 +95,17 @@ function contractOf(lines, at) {
   return lines.slice(at, end).join('\n');
 }
 
-const SPECS = crates.flatMap((crate) => filesIn(`crates/${crate}/specs`, '.antt')).flatMap(specNames);
+// A crate's own lemmas lie right in its proofs/, and what else is there answers goals.
+const isLemmas = (path) => /^crates\/\w+\/proofs\/\w+\.antt$/.test(path);
+const antt = (crate) => [
+  ...filesIn(`crates/${crate}/specs`, '.antt'), ...filesIn(`crates/${crate}/proofs`, '.antt').filter(isLemmas)];
+const SPECS = crates.flatMap(antt).flatMap(specNames);
 const CODE = crates.flatMap((crate) => filesIn(`crates/${crate}/src`, '.rt')).flatMap(codeNames);
 const EDITS = crates.flatMap((crate) => filesIn(`crates/${crate}/must-fail`, '.edit'));
 
 const crateOf = (path) => path.split('/')[1];
-const PROMISED = SPECS.filter(({ path, kind, open }) => crateOf(path) === 'promises' && kind === 'theorem' && open);
+const PROMISED = SPECS.filter(({ path, kind, open }) => (
+  path.startsWith('crates/promises/specs/') && kind === 'theorem' && open));
 
 const editPath = (name) => name.replace(/^(\w+)\/(\w+)$/, 'crates/$1/must-fail/$2.edit');
 const isEdit = (name) => EDITS.includes(editPath(name));
@@ -197,7 +201,8 @@ for (const { name, path } of PROMISED) {
 }
 
 // The public calls: functions at the root of a library, and those of its types. Its one open module is ours.
-const roots = CODE.filter(({ open, path }) => open && path.endsWith('src/lib.rt'));
+const roots = CODE.filter(({ open, path }) => (
+  open && path.endsWith('src/lib.rt') && !EXPORTING.includes(crateOf(path))));
 const calls = roots.filter(({ kind }) => kind === 'fn');
 const rows = map.rows.filter((row) => 'call' in row && 'one outcome' in row);
 const nameOf = ({ within, name, path }) => `${within ?? crateOf(path)}::${name}`;
@@ -208,9 +213,9 @@ for (const { name, path } of roots.filter(({ kind }) => kind === 'mod')) {
 
 // A theorem of that name, for this call alone, whose file takes the contract of this very call.
 function isOneOutcome(theorem, { path, within, name }) {
-  const contract = `Rattle·${crateOf(path)}.proofs.${within ? `${within}.` : ''}${name}.Reads`;
+  const contract = `Rattle.${crateOf(path)}.proofs.${within ? `${within}.` : ''}${name}.Reads`;
   const takesIt = (file) => linesOf(file).some((line) => line.includes(`${contract} `));
-  return /^one-|-one$/.test(theorem) && PROMISED.some((each) => each.name === theorem && takesIt(each.path))
+  return /^one_|_one$/.test(theorem) && PROMISED.some((each) => each.name === theorem && takesIt(each.path))
     && rows.filter((row) => namesIn(row['one outcome']).includes(theorem)).length === 1;
 }
 
@@ -237,6 +242,24 @@ for (const call of calls) {
 for (const { place, call } of rows) {
   for (const name of namesIn(call)) {
     holds(calls.some((each) => nameOf(each) === name), `${place}: \`${name}\` is no public call`);
+  }
+}
+
+// An export takes what the call of its name takes and promises the same, word for word; and each such call has one.
+const plain = (contract) => (
+  contract.replace('pub extern "C" fn', 'pub fn').replaceAll(/\(\s+/g, '(').replaceAll(/,?\s+\)/g, ')').replaceAll(/\s+/g, ' '));
+for (const crate of EXPORTING) {
+  const library = crate.replace(/_c$/, '');
+  const of = (name) => CODE.filter(({ path, kind, open }) => open && kind === 'fn' && path === `crates/${name}/src/lib.rt`);
+  const [offered, exported] = [of(library), of(crate)];
+  holds(offered.length > 0, `crates.txt: ${crate} exports no library`);
+  for (const { name, contract } of offered) {
+    const same = exported.filter((each) => each.name === name);
+    const isSame = same.length === 1 && plain(same[0].contract) === plain(contract);
+    holds(isSame, `crates/${crate}/src/lib.rt: ${name} does not take and promise what ${library}::${name} does`);
+  }
+  for (const { name, path } of exported) {
+    holds(offered.some((each) => each.name === name), `${path}: ${library} has no call ${name}`);
   }
 }
 

@@ -14,7 +14,7 @@ const ROOT = join(HERE, '../..');
 const LIBRARY = resolve(process.argv[2] ?? join(ROOT, 'target/hosts/libdungdapple.a'));
 const STREAM = join(ROOT, 'crates/calls/stdin');
 const LINES = join(ROOT, 'crates/calls/stdout');
-const EXPORTS = join(ROOT, 'crates/dungdapple/src/lib.rt');
+const EXPORTS = join(ROOT, 'crates/dungdapple_c/src/lib.rt');
 const HEADER = join(HERE, 'dungdapple.h');
 
 const MOST_SHOWN = 200;

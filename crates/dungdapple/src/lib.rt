@@ -27,8 +27,7 @@ ghost use Rattle.dungdapple.specs.Told.{Points, Carries};
 use plan::{Answer, Checked, Point};
 
 // Smooths the samples into the results, and leaves zeros in work.
-#[unsafe(no_mangle)]
-pub extern "C" fn dungdapple_smooth_series(
+pub fn dungdapple_smooth_series(
     plan: &[f64],
     bound: f64,
     samples: &[i32],
@@ -46,8 +45,7 @@ pub extern "C" fn dungdapple_smooth_series(
 }
 
 // The same of a picture, rows by the plan across and columns by the plan down.
-#[unsafe(no_mangle)]
-pub extern "C" fn dungdapple_smooth_picture(
+pub fn dungdapple_smooth_picture(
     across: &[f64],
     down: &[f64],
     bound: f64,
@@ -71,8 +69,7 @@ pub extern "C" fn dungdapple_smooth_picture(
 }
 
 // Sets the sample at `position` to the value, and gives each result within reach its gain. It is lent no work.
-#[unsafe(no_mangle)]
-pub extern "C" fn dungdapple_edit_series(
+pub fn dungdapple_edit_series(
     plan: &[f64],
     bound: f64,
     position: f64,
@@ -100,8 +97,7 @@ pub extern "C" fn dungdapple_edit_series(
 }
 
 // The smoothed value at `position`; plus zero where refused. It is lent no work.
-#[unsafe(no_mangle)]
-pub extern "C" fn dungdapple_point(
+pub fn dungdapple_point(
     plan: &[f64],
     bound: f64,
     position: f64,
@@ -136,8 +132,7 @@ pub extern "C" fn dungdapple_point(
 }
 
 // Radius and edge weight for a standard deviation in hundredths; both 0 where refused.
-#[unsafe(no_mangle)]
-pub extern "C" fn dungdapple_plan_for(
+pub fn dungdapple_plan_for(
     sigma_hundredths: f64,
     passes: f64,
     inner: f64,
@@ -156,8 +151,7 @@ pub extern "C" fn dungdapple_plan_for(
 }
 
 // The sum of a plan's K-fold kernel, D^K; 0 of a plan that is not accepted under any bound.
-#[unsafe(no_mangle)]
-pub extern "C" fn dungdapple_divisor(plan: &[f64]) -> f64
+pub fn dungdapple_divisor(plan: &[f64]) -> f64
     ensures { result ≡ of_int binary64 (pos (plan_divisor (stages_in plan.now))) }
 {
     let numbers = arguments::inner::plan(plan);
@@ -165,8 +159,7 @@ pub extern "C" fn dungdapple_divisor(plan: &[f64]) -> f64
 }
 
 // How far a sample is felt; 0 of a plan that is not accepted under any bound.
-#[unsafe(no_mangle)]
-pub extern "C" fn dungdapple_reach(plan: &[f64]) -> u32
+pub fn dungdapple_reach(plan: &[f64]) -> u32
     ensures { result ≡ plan_reach (stages_in plan.now) }
 {
     let numbers = arguments::inner::plan(plan);
@@ -174,15 +167,14 @@ pub extern "C" fn dungdapple_reach(plan: &[f64]) -> u32
 }
 
 // Takes doubles as samples: finite, whole and of size at most the bound.
-#[unsafe(no_mangle)]
-pub extern "C" fn dungdapple_doubles_in(
+pub fn dungdapple_doubles_in(
     bound: f64,
     doubles: &[f64],
     samples: &mut [i32],
     place: &mut u32,
     bad: &mut u32,
 ) -> u32
-    ensures { conversion.Gives (meant.doublesIn (count_of bound) doubles.now samples.old) (said result place.new bad.new) samples.new }
+    ensures { conversion.Gives (meant.doubles_in (count_of bound) doubles.now samples.old) (said result place.new bad.new) samples.new }
 {
     let most = arguments::inner::count(bound);
     let answer = samples::doubles_in(most, doubles, samples);
@@ -190,8 +182,7 @@ pub extern "C" fn dungdapple_doubles_in(
 }
 
 // Each result over the divisor, to the nearest whole number, a half going by the mode: 0 to the even neighbour, 1 upward.
-#[unsafe(no_mangle)]
-pub extern "C" fn dungdapple_whole_series(
+pub fn dungdapple_whole_series(
     plan: &[f64],
     bound: f64,
     mode: f64,
@@ -199,7 +190,7 @@ pub extern "C" fn dungdapple_whole_series(
     cells: &mut [i32],
     place: &mut u32,
 ) -> u32
-    ensures { conversion.Gives (meant.wholeSeriesBy (stages_in plan.now) (count_of bound) (count_of mode) results.now cells.old) (said result place.new 0) cells.new }
+    ensures { conversion.Gives (meant.whole_series_by (stages_in plan.now) (count_of bound) (count_of mode) results.now cells.old) (said result place.new 0) cells.new }
 {
     let numbers = arguments::inner::plan(plan);
     let most = arguments::inner::count(bound);
@@ -209,8 +200,7 @@ pub extern "C" fn dungdapple_whole_series(
 }
 
 // The same of a picture, over the product of both divisors.
-#[unsafe(no_mangle)]
-pub extern "C" fn dungdapple_whole_picture(
+pub fn dungdapple_whole_picture(
     across: &[f64],
     down: &[f64],
     bound: f64,
@@ -221,7 +211,7 @@ pub extern "C" fn dungdapple_whole_picture(
     cells: &mut [i32],
     place: &mut u32,
 ) -> u32
-    ensures { conversion.Gives (meant.wholePictureBy (stages_in across.now) (stages_in down.now) (count_of bound) (count_of width) (count_of height) (count_of mode) results.now cells.old) (said result place.new 0) cells.new }
+    ensures { conversion.Gives (meant.whole_picture_by (stages_in across.now) (stages_in down.now) (count_of bound) (count_of width) (count_of height) (count_of mode) results.now cells.old) (said result place.new 0) cells.new }
 {
     let rows = arguments::inner::plan(across);
     let columns = arguments::inner::plan(down);
@@ -234,8 +224,7 @@ pub extern "C" fn dungdapple_whole_picture(
 }
 
 // Each result and the carry over the divisor, rounded down, the rest carried on; the last carry is answered.
-#[unsafe(no_mangle)]
-pub extern "C" fn dungdapple_carry_series(
+pub fn dungdapple_carry_series(
     plan: &[f64],
     bound: f64,
     results: &[i64],
@@ -243,7 +232,7 @@ pub extern "C" fn dungdapple_carry_series(
     place: &mut u32,
     carry: &mut f64,
 ) -> u32
-    ensures { Carries (carrying.carrySeries (stages_in plan.now) (count_of bound) results.now cells.old) (said result place.new 0) carry.new cells.new }
+    ensures { Carries (carrying.carry_series (stages_in plan.now) (count_of bound) results.now cells.old) (said result place.new 0) carry.new cells.new }
 {
     let numbers = arguments::inner::plan(plan);
     let most = arguments::inner::count(bound);
@@ -257,8 +246,7 @@ pub extern "C" fn dungdapple_carry_series(
 }
 
 // The same of a picture, over the product of both divisors.
-#[unsafe(no_mangle)]
-pub extern "C" fn dungdapple_carry_picture(
+pub fn dungdapple_carry_picture(
     across: &[f64],
     down: &[f64],
     bound: f64,
@@ -269,7 +257,7 @@ pub extern "C" fn dungdapple_carry_picture(
     place: &mut u32,
     carry: &mut f64,
 ) -> u32
-    ensures { Carries (carrying.carryPicture (stages_in across.now) (stages_in down.now) (count_of bound) (count_of width) (count_of height) results.now cells.old) (said result place.new 0) carry.new cells.new }
+    ensures { Carries (carrying.carry_picture (stages_in across.now) (stages_in down.now) (count_of bound) (count_of width) (count_of height) results.now cells.old) (said result place.new 0) carry.new cells.new }
 {
     let rows = arguments::inner::plan(across);
     let columns = arguments::inner::plan(down);
@@ -286,15 +274,14 @@ pub extern "C" fn dungdapple_carry_picture(
 }
 
 // Each result over the divisor as a double, by one division.
-#[unsafe(no_mangle)]
-pub extern "C" fn dungdapple_doubles_series(
+pub fn dungdapple_doubles_series(
     plan: &[f64],
     bound: f64,
     results: &[i64],
     cells: &mut [f64],
     place: &mut u32,
 ) -> u32
-    ensures { conversion.Gives (meant.doublesSeries (stages_in plan.now) (count_of bound) results.now cells.old) (said result place.new 0) cells.new }
+    ensures { conversion.Gives (meant.doubles_series (stages_in plan.now) (count_of bound) results.now cells.old) (said result place.new 0) cells.new }
 {
     let numbers = arguments::inner::plan(plan);
     let most = arguments::inner::count(bound);
@@ -303,8 +290,7 @@ pub extern "C" fn dungdapple_doubles_series(
 }
 
 // The same of a picture, over the product of both divisors.
-#[unsafe(no_mangle)]
-pub extern "C" fn dungdapple_doubles_picture(
+pub fn dungdapple_doubles_picture(
     across: &[f64],
     down: &[f64],
     bound: f64,
@@ -314,7 +300,7 @@ pub extern "C" fn dungdapple_doubles_picture(
     cells: &mut [f64],
     place: &mut u32,
 ) -> u32
-    ensures { conversion.Gives (meant.doublesPicture (stages_in across.now) (stages_in down.now) (count_of bound) (count_of width) (count_of height) results.now cells.old) (said result place.new 0) cells.new }
+    ensures { conversion.Gives (meant.doubles_picture (stages_in across.now) (stages_in down.now) (count_of bound) (count_of width) (count_of height) results.now cells.old) (said result place.new 0) cells.new }
 {
     let rows = arguments::inner::plan(across);
     let columns = arguments::inner::plan(down);
@@ -326,8 +312,7 @@ pub extern "C" fn dungdapple_doubles_picture(
 }
 
 // The lowest and the highest result over the divisor, with the first index of each; plus zero and 0 where refused.
-#[unsafe(no_mangle)]
-pub extern "C" fn dungdapple_summary_series(
+pub fn dungdapple_summary_series(
     plan: &[f64],
     bound: f64,
     results: &[i64],
@@ -337,7 +322,7 @@ pub extern "C" fn dungdapple_summary_series(
     lowest_at: &mut u32,
     highest_at: &mut u32,
 ) -> u32
-    ensures { record { answer = said result place.new 0; lowest = lowest.new; highest = highest.new; lowest_at = lowest_at.new; highest_at = highest_at.new } ≡ meant.summarySeries (stages_in plan.now) (count_of bound) results.now }
+    ensures { record { answer = said result place.new 0; lowest = lowest.new; highest = highest.new; lowest_at = lowest_at.new; highest_at = highest_at.new } ≡ meant.summary_series (stages_in plan.now) (count_of bound) results.now }
 {
     let numbers = arguments::inner::plan(plan);
     let most = arguments::inner::count(bound);
@@ -354,8 +339,7 @@ pub extern "C" fn dungdapple_summary_series(
 }
 
 // The same of a picture, over the product of both divisors.
-#[unsafe(no_mangle)]
-pub extern "C" fn dungdapple_summary_picture(
+pub fn dungdapple_summary_picture(
     across: &[f64],
     down: &[f64],
     bound: f64,
@@ -368,7 +352,7 @@ pub extern "C" fn dungdapple_summary_picture(
     lowest_at: &mut u32,
     highest_at: &mut u32,
 ) -> u32
-    ensures { record { answer = said result place.new 0; lowest = lowest.new; highest = highest.new; lowest_at = lowest_at.new; highest_at = highest_at.new } ≡ meant.summaryPicture (stages_in across.now) (stages_in down.now) (count_of bound) (count_of width) (count_of height) results.now }
+    ensures { record { answer = said result place.new 0; lowest = lowest.new; highest = highest.new; lowest_at = lowest_at.new; highest_at = highest_at.new } ≡ meant.summary_picture (stages_in across.now) (stages_in down.now) (count_of bound) (count_of width) (count_of height) results.now }
 {
     let rows = arguments::inner::plan(across);
     let columns = arguments::inner::plan(down);
@@ -388,35 +372,28 @@ pub extern "C" fn dungdapple_summary_picture(
 }
 
 // Each result as the double that is the same number.
-#[unsafe(no_mangle)]
-pub extern "C" fn dungdapple_results_to_doubles(
-    results: &[i64],
-    cells: &mut [f64],
-    place: &mut u32,
-) -> u32
-    ensures { conversion.Gives (exactly.resultsToDoubles results.now cells.old) (said result place.new 0) cells.new }
+pub fn dungdapple_results_to_doubles(results: &[i64], cells: &mut [f64], place: &mut u32) -> u32
+    ensures { conversion.Gives (exactly.results_to_doubles results.now cells.old) (said result place.new 0) cells.new }
 {
     let answer = exact::results_to_doubles(results, cells);
     answers::inner::told(answer, place)
 }
 
 // Each double as the result that is the same number.
-#[unsafe(no_mangle)]
-pub extern "C" fn dungdapple_doubles_to_results(
+pub fn dungdapple_doubles_to_results(
     doubles: &[f64],
     results: &mut [i64],
     place: &mut u32,
     bad: &mut u32,
 ) -> u32
-    ensures { conversion.Gives (exactly.doublesToResults doubles.now results.old) (said result place.new bad.new) results.new }
+    ensures { conversion.Gives (exactly.doubles_to_results doubles.now results.old) (said result place.new bad.new) results.new }
 {
     let answer = exact::doubles_to_results(doubles, results);
     answers::inner::checked(answer, place, bad)
 }
 
 // The numbers of a job record, and the stretch of it that holds the samples, in bytes; all 0 where refused.
-#[unsafe(no_mangle)]
-pub extern "C" fn dungdapple_read_record(
+pub fn dungdapple_read_record(
     bytes: &[u8],
     radius: &mut u32,
     inner: &mut u32,
@@ -440,21 +417,14 @@ pub extern "C" fn dungdapple_read_record(
 }
 
 // Every cell gets its sample of such a stretch, 0 where that has none.
-#[unsafe(no_mangle)]
-pub extern "C" fn dungdapple_record_samples(stretch: &[u8], samples: &mut [i32])
+pub fn dungdapple_record_samples(stretch: &[u8], samples: &mut [i32])
     ensures { samples.new ≡ list_of (length samples.old) (sample_at stretch.now) }
 {
     record::inner::load(stretch, samples);
 }
 
 // Writes a job record, of 27 bytes and 4 a sample. It judges no number but by its field, which has to hold it.
-#[unsafe(no_mangle)]
-pub extern "C" fn dungdapple_write_record(
-    plan: &[f64],
-    bound: f64,
-    samples: &[i32],
-    bytes: &mut [u8],
-) -> u32
+pub fn dungdapple_write_record(plan: &[f64], bound: f64, samples: &[i32], bytes: &mut [u8]) -> u32
     ensures { writing.Writes (write_record_in (plan_in plan.now) (count_of bound) samples.now bytes.old) (plain result) bytes.new }
 {
     let numbers = arguments::inner::plan(plan);
