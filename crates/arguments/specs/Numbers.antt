@@ -2,7 +2,7 @@
 --   numbers_of p   the numbers of the plan p
 -- Laws: count_held (what a cast to an unsigned number asks), numbers_taken (four numbers, each taken).
 use Rattle.std.specs.Prelude.{ℕ, ◌≡◌, false, List, T, length, get_or, ℤ, pos, negsuc, nat_abs, Float}
-use Rattle.std.proofs.Common.{sym, ◌∙◌, true≢false, arith, SFits, Fits}
+use Rattle.std.proofs.Common.{sym, true≢false, arith, SFits, Fits}
 use Rattle.std.specs.Int.Signed.{lt_z, non_neg}
 use Rattle.std.specs.Float.{nan}
 use Rattle.std.specs.Int.{w64}

@@ -23,7 +23,7 @@ pub(crate) fn carried(answer: Answer, carry: u64) -> Carried
 pub(crate) fn carry_into(divisor: u64, results: &[i64], cells: &mut [i32]) -> u64
     requires { Convertible divisor results.now (length cells.old) }
     ensures value { result ≡ meant.carry divisor results.now (length results.now) }
-    ensures cells_after { cells.new ≡ list_of (length results.now) (meant.carryCell divisor results.now) }
+    ensures cells_after { cells.new ≡ list_of (length results.now) (meant.carry_cell divisor results.now) }
 {
     let mut carry: u64 = 0;
     let mut n: usize = 0;

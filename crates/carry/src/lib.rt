@@ -20,7 +20,7 @@ pub struct Carried {
 
 // Each result and the carry over the divisor, rounded down; the rest is carried on. A refused call changes no cell.
 pub fn carry_series(plan: Plan, bound: u64, results: &[i64], cells: &mut [i32]) -> Carried
-    ensures { Gives (meant.carrySeries (stages_of plan) bound results.now cells.old) (answer_of result) result.carry cells.new }
+    ensures { Gives (meant.carry_series (stages_of plan) bound results.now cells.old) (answer_of result) result.carry cells.new }
 {
     let answer = outputs::inner::series(plan, bound, results, cells.len());
     if answer.number != 0 {
@@ -40,7 +40,7 @@ pub fn carry_picture(
     results: &[i64],
     cells: &mut [i32],
 ) -> Carried
-    ensures { Gives (meant.carryPicture (stages_of across) (stages_of down) bound width height results.now cells.old) (answer_of result) result.carry cells.new }
+    ensures { Gives (meant.carry_picture (stages_of across) (stages_of down) bound width height results.now cells.old) (answer_of result) result.carry cells.new }
 {
     let answer = outputs::inner::picture(across, down, bound, width, height, results, cells.len());
     if answer.number != 0 {

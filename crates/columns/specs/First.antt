@@ -8,7 +8,7 @@ use Rattle.std.proofs.Math.Nat.{mul-le-mul_right}
 use Rattle.std.proofs.Math.IntN.{pos, +ℤ_idl, *ℤ-zero}
 use Rattle.algebra.specs.Ring.{*ℤ-assoc, *ℤ-+ℤ}
 use Rattle.algebra.specs.Size.{Abs, abs_self, abs-+, abs-*}
-use Rattle.meaning.specs.Extension.{at, fold}
+use Rattle.meaning.specs.Extension.{fold}
 use Rattle.meaning.specs.Kernel.{Stage, tap_sum, pass_at}
 use Rattle.meaning.specs.Smoothing.{list_of, pass}
 use Rattle.meaning.specs.Picture as P

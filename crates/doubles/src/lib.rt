@@ -12,7 +12,7 @@ pub mod inner;
 
 // Each result over the divisor as a double, by one division. A refused call changes no cell.
 pub fn doubles_series(plan: Plan, bound: u64, results: &[i64], cells: &mut [f64]) -> Answer
-    ensures { Gives (meant.doublesSeries (stages_of plan) bound results.now cells.old) (answer_of result) cells.new }
+    ensures { Gives (meant.doubles_series (stages_of plan) bound results.now cells.old) (answer_of result) cells.new }
 {
     let answer = outputs::inner::series(plan, bound, results, cells.len());
     if answer.number != 0 {
@@ -32,7 +32,7 @@ pub fn doubles_picture(
     results: &[i64],
     cells: &mut [f64],
 ) -> Answer
-    ensures { Gives (meant.doublesPicture (stages_of across) (stages_of down) bound width height results.now cells.old) (answer_of result) cells.new }
+    ensures { Gives (meant.doubles_picture (stages_of across) (stages_of down) bound width height results.now cells.old) (answer_of result) cells.new }
 {
     let answer = outputs::inner::picture(across, down, bound, width, height, results, cells.len());
     if answer.number != 0 {

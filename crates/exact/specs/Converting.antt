@@ -3,7 +3,7 @@
 --   Takable xs n   every double of xs is a whole number so small, and there are n results for them
 -- Laws: size_refused, length_refused, length_passed (rows 7 and 8 as code tests them); held, takable (what an answer of 0 leaves);
 -- exact_refused, exact_done, back_refused, back_done (the two ends of each call).
-use Rattle.std.specs.Prelude.{ℕ, ◌≤◌, ◌<◌, ◌≡◌, refl, true, false, List, [], ◌∷◌, map, length, get_or, ℤ, nat_abs, Float}
+use Rattle.std.specs.Prelude.{ℕ, ◌≤◌, ◌<◌, ◌≡◌, refl, true, false, List, map, length, get_or, ℤ, nat_abs, Float}
 use Rattle.std.proofs.Math.Path.{sym}
 use Rattle.std.proofs.Common.{ap, ◌∙◌}
 use Rattle.std.proofs.Math.Bool.{not}

@@ -8,7 +8,7 @@ use plan::{Answer, Checked, Plan};
 
 // Rows 7 and 8, of so many cells given and so many lent.
 fn length_refusal(given: usize, lent: usize) -> u64
-    ensures { plain result ≡ R.first_of (meant.lengthRows given lent) }
+    ensures { plain result ≡ R.first_of (meant.length_rows given lent) }
 {
     if plan::inner::outside(Plan::LEAST, Plan::MAX_LENGTH, given as u64) {
         return 7;
@@ -20,7 +20,7 @@ fn length_refusal(given: usize, lent: usize) -> u64
 }
 
 pub(crate) fn results_refusal(results: &[i64], cells: usize) -> Answer
-    ensures { answer_of result ≡ R.first_of (meant.exactRows results.now cells) }
+    ensures { answer_of result ≡ R.first_of (meant.exact_rows results.now cells) }
 {
     let number = length_refusal(results.len(), cells);
     if number != 0 {
@@ -33,7 +33,7 @@ pub(crate) fn results_refusal(results: &[i64], cells: usize) -> Answer
 }
 
 pub(crate) fn doubles_refusal(doubles: &[f64], results: usize) -> Checked
-    ensures { checked_answer result ≡ R.first_of (meant.backRows doubles.now results) }
+    ensures { checked_answer result ≡ R.first_of (meant.back_rows doubles.now results) }
 {
     let number = length_refusal(doubles.len(), results);
     if number != 0 {

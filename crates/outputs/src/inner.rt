@@ -29,7 +29,7 @@ pub fn result_refusal(limit: u64, results: &[i64]) -> Answer
 
 // A summary has no cells, and gives the results' own length.
 pub fn series(plan: Plan, bound: u64, results: &[i64], cells: usize) -> Answer
-    ensures { answer_of result ≡ R.first_of (meant.outputRows (R.series_of (stages_of plan) (length results.now)) bound results.now cells) }
+    ensures { answer_of result ≡ R.first_of (meant.output_rows (R.series_of (stages_of plan) (length results.now)) bound results.now cells) }
 {
     let n = results.len();
     let number = refusals::inner::series_refusal(plan, bound, n, cells != n);
@@ -52,7 +52,7 @@ pub fn picture(
     results: &[i64],
     cells: usize,
 ) -> Answer
-    ensures { answer_of result ≡ R.first_of (meant.outputRows (R.picture_of (stages_of across) (stages_of down) width height) bound results.now cells) }
+    ensures { answer_of result ≡ R.first_of (meant.output_rows (R.picture_of (stages_of across) (stages_of down) width height) bound results.now cells) }
 {
     let asked = refusals::inner::picture_cells(width, height);
     let wrong_length = refusals::inner::lengths_differ(results.len(), asked, cells, asked);

@@ -6,7 +6,7 @@ ghost use Rattle.planner.specs.Ready.{Sigma, Found};
 // The largest r with r(r+1)Q <= 3s². It is at most 442, and found by counting up.
 pub(crate) fn radius(sigma: u64, passes: u64) -> u64
     requires { Sigma sigma passes }
-    ensures { result ≡ meant.radiusFor sigma (10000 * passes) }
+    ensures { result ≡ meant.radius_for sigma (10000 * passes) }
 {
     let most = 3 * sigma * sigma;
     let q = 10000 * passes;
@@ -20,7 +20,7 @@ pub(crate) fn radius(sigma: u64, passes: u64) -> u64
 // The whole number nearest b(2r+1)(3s² - r(r+1)Q) / (6((r+1)²Q - s²)), a half going down.
 pub(crate) fn edge(sigma: u64, passes: u64, inner: u64, radius: u64) -> u64
     requires { Found sigma passes inner radius }
-    ensures { result ≡ meant.edgeFor sigma (10000 * passes) inner radius }
+    ensures { result ≡ meant.edge_for sigma (10000 * passes) inner radius }
 {
     let q = 10000 * passes;
     let square = sigma * sigma;

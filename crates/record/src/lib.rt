@@ -27,7 +27,7 @@ impl Job {
 
 // No code calls this: it is proved, so that the constant is the number of the definitions.
 fn limit_agrees()
-    ensures* { do ⌜ max_samples ≡ (← (⟦Job::MAX_SAMPLES⟧).entry) ⌝ }
+    ensures { max_samples ≡ Job.MAX_SAMPLES }
 {}
 
 // That stretch of a record, as much of it as the record has.

@@ -12,7 +12,7 @@ use plan::{Checked, Plan};
 
 // There is no plan, and so no product that could be too large.
 pub(crate) fn refusal(bound: u64, doubles: &[f64], samples: usize) -> Checked
-    ensures { checked_answer result ≡ R.first_of (meant.doubleRows bound doubles.now samples) }
+    ensures { checked_answer result ≡ R.first_of (meant.double_rows bound doubles.now samples) }
 {
     let n = doubles.len();
     let bad_size = plan::inner::outside(Plan::LEAST, Plan::MAX_LENGTH, n as u64);

@@ -7,7 +7,7 @@ use Rattle.std.proofs.Common.{◌∙◌, le_trans, arith}
 use Rattle.std.proofs.Math.ListN.{replicate}
 use Rattle.meaning.specs.Extension.{at, fold}
 use Rattle.meaning.specs.Kernel.{divisor}
-use Rattle.meaning.specs.Smoothing.{results, pass}
+use Rattle.meaning.specs.Smoothing.{pass}
 use Rattle.meaning.specs.Refusals.{Answer, first_of, differs, within, above, Shape, series_of, common_rows}
 use Rattle.meaning.specs.Calls.{sample_row, smooth_rows, smoothed}
 use Rattle.theory.specs.HalfSample.{half_sample}

@@ -23,7 +23,7 @@ pub struct Summary {
 
 // The lowest and the highest of the results.
 pub fn summary_series(plan: Plan, bound: u64, results: &[i64]) -> Summary
-    ensures { summary_of result ≡ meant.summarySeries (stages_of plan) bound results.now }
+    ensures { summary_of result ≡ meant.summary_series (stages_of plan) bound results.now }
 {
     let answer = outputs::inner::series(plan, bound, results, results.len());
     if answer.number != 0 {
@@ -41,7 +41,7 @@ pub fn summary_picture(
     height: u64,
     results: &[i64],
 ) -> Summary
-    ensures { summary_of result ≡ meant.summaryPicture (stages_of across) (stages_of down) bound width height results.now }
+    ensures { summary_of result ≡ meant.summary_picture (stages_of across) (stages_of down) bound width height results.now }
 {
     let answer = outputs::inner::picture(
         across,

@@ -24,7 +24,7 @@ pub fn whole_series_by(
     results: &[i64],
     cells: &mut [i32],
 ) -> Answer
-    ensures { Gives (meant.wholeSeriesBy (stages_of plan) bound mode results.now cells.old) (answer_of result) cells.new }
+    ensures { Gives (meant.whole_series_by (stages_of plan) bound mode results.now cells.old) (answer_of result) cells.new }
 {
     let answer = mode::tested(
         outputs::inner::series(plan, bound, results, cells.len()),
@@ -39,7 +39,7 @@ pub fn whole_series_by(
 
 // The same, a half going to the even neighbour.
 pub fn whole_series(plan: Plan, bound: u64, results: &[i64], cells: &mut [i32]) -> Answer
-    ensures { Gives (meant.wholeSeries (stages_of plan) bound results.now cells.old) (answer_of result) cells.new }
+    ensures { Gives (meant.whole_series (stages_of plan) bound results.now cells.old) (answer_of result) cells.new }
 {
     whole_series_by(plan, bound, EVEN, results, cells)
 }
@@ -55,7 +55,7 @@ pub fn whole_picture_by(
     results: &[i64],
     cells: &mut [i32],
 ) -> Answer
-    ensures { Gives (meant.wholePictureBy (stages_of across) (stages_of down) bound width height mode results.now cells.old) (answer_of result) cells.new }
+    ensures { Gives (meant.whole_picture_by (stages_of across) (stages_of down) bound width height mode results.now cells.old) (answer_of result) cells.new }
 {
     let answer = mode::tested(
         outputs::inner::picture(across, down, bound, width, height, results, cells.len()),
@@ -78,7 +78,7 @@ pub fn whole_picture(
     results: &[i64],
     cells: &mut [i32],
 ) -> Answer
-    ensures { Gives (meant.wholePicture (stages_of across) (stages_of down) bound width height results.now cells.old) (answer_of result) cells.new }
+    ensures { Gives (meant.whole_picture (stages_of across) (stages_of down) bound width height results.now cells.old) (answer_of result) cells.new }
 {
     whole_picture_by(across, down, bound, width, height, EVEN, results, cells)
 }

@@ -9,7 +9,7 @@ use plan::Answer;
 
 // Row 21.
 fn refusal(mode: u64) -> Answer
-    ensures { answer_of result ≡ R.first_of (meant.modeRows mode) }
+    ensures { answer_of result ≡ R.first_of (meant.mode_rows mode) }
 {
     if mode > UPWARD {
         return Answer {
@@ -25,7 +25,7 @@ fn refusal(mode: u64) -> Answer
 
 // Row 21 comes after all others: what they have answered stands.
 pub(crate) fn tested(answer: Answer, mode: u64) -> Answer
-    ensures { answer_of result ≡ R.if_done (answer_of answer) (R.first_of (meant.modeRows mode)) (answer_of answer) }
+    ensures { answer_of result ≡ R.if_done (answer_of answer) (R.first_of (meant.mode_rows mode)) (answer_of answer) }
 {
     let number = answer.number;
     match number {

@@ -1,11 +1,13 @@
-// Lines of standard output: words with one space between.
+// Lines of output: words with one space between.
 ghost use Rattle.std.specs.Prelude.{◌≡◌, map, ◌+◌, ◌^◌, ◌≤◌, ◌<◌, length, pos};
 ghost use Rattle.meaning.specs.Extension.{emod};
-ghost use Rattle.calls_stream.specs.Checksum.{modulus, gained, checksumOf};
+ghost use Rattle.calls_stream.specs.Checksum.{modulus, gained, checksum_of};
 
 use encoding::inner::magnitude;
-use libc::STDOUT_FILENO;
 use plan::{Answer, Checked};
+use std::fmt::Display;
+use std::io;
+use std::io::Write;
 
 // Of a longer slice a checksum is printed.
 const MOST_PRINTED: usize = 64;
@@ -14,69 +16,100 @@ const MODULUS: u64 = 2147483647;
 
 const QUIET_NAN: u64 = 9221120237041090560;
 
+// Where lines go. After a write that failed nothing more is written, and `end` gives that error.
+#[derive(Drop)]
+pub struct Lines<W> {
+    to: W,
+    written: io::Result<()>,
+}
+
+impl<W: Write> Lines<W> {
+    pub fn new(to: W) -> Lines<W> {
+        Lines {
+            to,
+            written: Ok(()),
+        }
+    }
+
+    fn put<D: Display + Drop>(&mut self, text: D) {
+        if self.written.is_ok() {
+            self.written = self.to.write_fmt(text);
+        }
+    }
+
+    // What the writer holds back is written too.
+    pub fn end(mut self) -> io::Result<()>
+    where
+        W: Drop,
+    {
+        self.written?;
+        self.to.flush()
+    }
+}
+
 // The first two words of a line.
-pub fn answer(answer: Answer) {
-    first(answer.number);
-    number(answer.position as u64);
+pub fn answer<W: Write>(to: &mut Lines<W>, answer: Answer) {
+    first(to, answer.number);
+    number(to, answer.position as u64);
 }
 
 // The first three, of a call that tests samples.
-pub fn checked(answer: Checked) {
-    first(answer.number);
-    number(answer.position as u64);
-    number(answer.bad as u64);
+pub fn checked<W: Write>(to: &mut Lines<W>, answer: Checked) {
+    first(to, answer.number);
+    number(to, answer.position as u64);
+    number(to, answer.bad as u64);
 }
 
 // The first word of a line has no space before it.
-pub fn first(n: u64) {
-    io::print_decimal(STDOUT_FILENO, n);
+pub fn first<W: Write>(to: &mut Lines<W>, n: u64) {
+    to.put(n);
 }
 
-pub fn number(n: u64) {
-    io::write_all(STDOUT_FILENO, b" ");
-    io::print_decimal(STDOUT_FILENO, n);
+pub fn number<W: Write>(to: &mut Lines<W>, n: u64) {
+    to.put(" ");
+    to.put(n);
 }
 
 // A double is printed as its bits.
-pub fn double(x: f64) {
-    number(bits(x, QUIET_NAN));
+pub fn double<W: Write>(to: &mut Lines<W>, x: f64) {
+    number(to, bits(x, QUIET_NAN));
 }
 
-pub fn wholes(values: &[i64]) {
+pub fn wholes<W: Write>(to: &mut Lines<W>, values: &[i64]) {
     if values.len() > MOST_PRINTED {
-        in_short(values.len(), checksum(values));
+        in_short(to, values.len(), checksum(values));
     } else {
-        elements(values);
+        elements(to, values);
     }
 }
 
 // The same of samples.
-pub fn samples(values: &[i32]) {
+pub fn samples<W: Write>(to: &mut Lines<W>, values: &[i32]) {
     if values.len() > MOST_PRINTED {
-        in_short(values.len(), sample_checksum(values));
+        in_short(to, values.len(), sample_checksum(values));
     } else {
-        sample_elements(values);
+        sample_elements(to, values);
     }
 }
 
 // Bytes are printed as whole numbers, which stand in the front of room for that.
-pub fn bytes(values: &[u8], room: &mut [i64])
+pub fn bytes<W: Write>(to: &mut Lines<W>, values: &[u8], room: &mut [i64])
     requires { length values.now ≤ length room.old }
 {
     for i in 0..values.len() {
         room[i] = values[i] as i64;
     }
-    wholes(&room[..values.len()]);
+    wholes(to, &room[..values.len()]);
 }
 
 // Doubles are printed as their bits, from the front of the words that they were read from.
-pub fn doubles(values: &[f64], words: &mut [u64])
+pub fn doubles<W: Write>(to: &mut Lines<W>, values: &[f64], words: &mut [u64])
     requires { length values.now ≤ length words.old }
 {
     for i in 0..values.len() {
         words[i] = bits(values[i], words[i]);
     }
-    numbers(&words[..values.len()]);
+    numbers(to, &words[..values.len()]);
 }
 
 // A NaN's own bits cannot be read, so others stand for them.
@@ -88,59 +121,59 @@ fn bits(x: f64, otherwise: u64) -> u64 {
 }
 
 // Numbers without sign.
-pub fn numbers(values: &[u64]) {
+pub fn numbers<W: Write>(to: &mut Lines<W>, values: &[u64]) {
     if values.len() > MOST_PRINTED {
-        in_short(values.len(), number_checksum(values));
+        in_short(to, values.len(), number_checksum(values));
     } else {
-        number_elements(values);
+        number_elements(to, values);
     }
 }
 
-pub fn end_line() {
-    io::write_all(STDOUT_FILENO, b"\n");
+pub fn end_line<W: Write>(to: &mut Lines<W>) {
+    to.put("\n");
 }
 
 // What follows a slice that is too long.
-pub fn stop() {
-    io::write_all(STDOUT_FILENO, b"stop\n");
+pub fn stop<W: Write>(to: &mut Lines<W>) {
+    to.put("stop\n");
 }
 
 // A long slice: its length and checksum.
-fn in_short(length: usize, checksum: u64) {
-    io::write_all(STDOUT_FILENO, b" #");
-    number(length as u64);
-    number(checksum);
+fn in_short<W: Write>(to: &mut Lines<W>, length: usize, checksum: u64) {
+    to.put(" #");
+    number(to, length as u64);
+    number(to, checksum);
 }
 
-fn elements(values: &[i64]) {
+fn elements<W: Write>(to: &mut Lines<W>, values: &[i64]) {
     for i in 0..values.len() {
-        whole(values[i]);
+        whole(to, values[i]);
     }
 }
 
-fn sample_elements(values: &[i32]) {
+fn sample_elements<W: Write>(to: &mut Lines<W>, values: &[i32]) {
     for i in 0..values.len() {
-        whole(values[i] as i64);
+        whole(to, values[i] as i64);
     }
 }
 
-fn number_elements(values: &[u64]) {
+fn number_elements<W: Write>(to: &mut Lines<W>, values: &[u64]) {
     for i in 0..values.len() {
-        number(values[i]);
+        number(to, values[i]);
     }
 }
 
-pub fn whole(value: i64) {
+pub fn whole<W: Write>(to: &mut Lines<W>, value: i64) {
     if value < 0 {
-        io::write_all(STDOUT_FILENO, b" -");
-        io::print_decimal(STDOUT_FILENO, magnitude(value) + 1);
+        to.put(" -");
+        to.put(magnitude(value) + 1);
     } else {
-        number(magnitude(value));
+        number(to, magnitude(value));
     }
 }
 
 fn checksum(values: &[i64]) -> u64
-    ensures { result ≡ checksumOf values.now }
+    ensures { result ≡ checksum_of values.now }
 {
     let mut sum = 0;
     for i in 0..values.len() {
@@ -150,7 +183,7 @@ fn checksum(values: &[i64]) -> u64
 }
 
 fn sample_checksum(values: &[i32]) -> u64
-    ensures { result ≡ checksumOf values.now }
+    ensures { result ≡ checksum_of values.now }
 {
     let mut sum = 0;
     for i in 0..values.len() {
@@ -160,7 +193,7 @@ fn sample_checksum(values: &[i32]) -> u64
 }
 
 fn number_checksum(values: &[u64]) -> u64
-    ensures { result ≡ checksumOf (map pos values.now) }
+    ensures { result ≡ checksum_of (map pos values.now) }
 {
     let mut sum = 0;
     for i in 0..values.len() {
