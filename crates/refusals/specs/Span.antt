@@ -1,7 +1,7 @@
 -- What lies within reach of a place p: from low up to high, high itself left out.
 --   low p R      the first place
 --   high N p R   the place behind the last, of N
--- That what lies there is what is near is near-within, a law of the definitions. Law: span_one (the place alone).
+-- That what lies there is what is near is near_within, a law of the definitions. Law: span_one (the place alone).
 use Rattle.std.specs.Prelude.{ℕ, ◌+◌, ◌-◌, ◌<◌, min, ◌≡◌, eqb}
 use Rattle.std.proofs.Math.Decide.{ℕ_discrete, dec_lt}
 use Rattle.std.proofs.Common.{arith, eq-eqb, ne_eqb}

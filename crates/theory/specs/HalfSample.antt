@@ -1,5 +1,5 @@
 -- The half-sample symmetric fold, document 01's extension, is a Folding, has Nearness and is Balanced.
---   half-sample            the Folding
+--   half_sample            the Folding
 --   half_sample_near       the Nearness
 --   half_sample_balanced   the balance
 -- Laws: reflect_low, reflect_high, reflect_min (both, for omega);

@@ -56,7 +56,7 @@
 --   Narrow       how large the numbers are that a call answers
 --   Arguments    what a host's doubles are taken as
 -- A law over an index map φ takes `F : Folding φ`, where it speaks of reach `C : Nearness φ`, and of totals `B : Balanced φ`:
--- for document 01, half-sample, half_sample_near and half_sample_balanced.
+-- for document 01, half_sample, half_sample_near and half_sample_balanced.
 pub mod Folding
 pub mod Remainder
 pub mod HalfSample
