@@ -1,0 +1,19 @@
+-- The numbers that were taken, the call, and its answer told.
+use lib.ListN.{length}
+use Rattle.meaning.specs.Refusals.{series_of}
+use Rattle.theory.specs.Narrow.{series_cells, narrow_carried}
+use Rattle.plan.specs.Structs.{stages_of}
+use Rattle.dungdapple.specs.Held.{carry_series_held}
+use Rattle.dungdapple.specs.Same.{narrow_as}
+use Rattle.dungdapple.proofs.dungdapple_carry_series.Goals as goal
+
+pub int_to_float-carry : goal.int_to_float-carry
+int_to_float-carry c =
+    let a = c.args in
+    carry_series_held c.count-most.result a.results.now a.cells.now (stages_of c.plan-numbers.result) c.carry_series-carried.ensures.carry
+
+pub told-requires : goal.told-requires
+told-requires c =
+    let a = c.args in
+    let ss = stages_of c.plan-numbers.result in
+    narrow_as c.carry_series-carried.ensures.answer (narrow_carried (series_of ss (length a.results.now)) (series_cells ss (length a.results.now)) c.count-most.result a.results.now a.cells.now)
