@@ -1,43 +1,69 @@
 // Reads one job from standard input, smooths it, and prints the results.
 #![tactic(auto)]
 
-ghost use Rattle.std.specs.Prelude.{◌≡◌, suc, length};
+ghost use Rattle.std.specs.Prelude.{◌≡◌, ◌≤◌, suc, length, take, IfOk, OnOk, IfSome};
+ghost use Rattle.std.specs.Io.KnownBytes.{Appends};
 ghost use Rattle.meaning.specs.Limits.{max_job};
+ghost use Rattle.meaning.specs.Program.{program};
+
+use std::io;
+use std::io::{Read, Write};
 
 // So that a longer input shows. What follows is not read, and says nothing: law program_front.
 const MOST_READ: usize = report::inner::MOST_BYTES + 1;
 
-fn main() {
+// More than any report has.
+const MOST_PRINTED: usize = 65536;
+
+fn main(rt: HostRuntime) -> io::Result<()> {
+    run(&rt, &mut rt.reader(), &mut io::writer(&rt))
+}
+
+// From the bytes of a job to those of its report.
+fn run<E: Eprint, R: Read, W: Write>(rt: &E, from: &mut R, to: &mut W) -> io::Result<()>
+    ensures { OnOk result (IfSome (R.remaining from.old) (λ xs. Appends (W.contents to.old) (W.contents to.new) (program xs))) }
+{
     let mut input = input_buffer();
-    let mut out = io::large_buffer();
-    let n = io::read_full(libc::STDIN_FILENO, &mut input);
-    see_end(n);
+    let mut out = [0u8; MOST_PRINTED];
+    let n = see_end(rt, read_front(from, &mut input))?;
     let end = report::inner::report(&input[..n], &mut out);
-    print(&out[..end]);
+    print(rt, to, &out[..end])
 }
 
-// At its end the input gives nothing more, however often it is asked; else a read has failed before.
-fn see_end(n: usize) {
-    if n == MOST_READ {
-        return;
+// Reads until room is full or the input ends; how many bytes that were.
+fn read_front<R: Read>(from: &mut R, room: &mut [u8]) -> io::Result<usize>
+    ensures within { IfOk result (λ n. n ≤ length room.new) }
+    ensures bytes { IfOk result (λ n. IfSome (R.remaining from.old) (λ xs. take n room.new ≡ take (length room.old) xs)) }
+{
+    let mut n = 0;
+    while n < room.len() {
+        let more = from.read(&mut room[n..])?;
+        if more == 0 {
+            return Ok(n);
+        }
+        n += more;
     }
-    let mut more = [0u8; 1];
-    if libc::read(libc::STDIN_FILENO, &mut more) != 0 {
-        io::write_all(
-            libc::STDERR_FILENO,
-            b"smooth: standard input could not be read to its end\n",
-        );
-    }
+    Ok(n)
 }
 
-// The language gives a program no exit status to say that its text was not taken whole.
-fn print(text: &[u8]) {
-    if !io::write_all(libc::STDOUT_FILENO, text) {
-        io::write_all(
-            libc::STDERR_FILENO,
-            b"smooth: standard output did not take the whole report\n",
-        );
+// A job that was not read to its end is not smoothed.
+fn see_end<E: Eprint>(rt: &E, read: io::Result<usize>) -> io::Result<usize>
+    ensures { result ≡ read }
+{
+    if read.is_err() {
+        let _ = rt.eprintln("smooth: standard input could not be read to its end");
     }
+    read
+}
+
+fn print<E: Eprint, W: Write>(rt: &E, to: &mut W, text: &[u8]) -> io::Result<()>
+    ensures { OnOk result (Appends (W.contents to.old) (W.contents to.new) text.now) }
+{
+    let written = to.write_all(text);
+    if written.is_err() {
+        let _ = rt.eprintln("smooth: standard output did not take the whole report");
+    }
+    written
 }
 
 // One byte more than a job may have.
