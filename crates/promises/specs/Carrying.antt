@@ -192,11 +192,11 @@ pub carry_picture_allowed : (c : PictureCall) → Exactly ((of_picture c).out.an
 carry_picture_allowed c = alone (output_picture _ _ _ [] none_own (stages_of (across c)) (stages_of (down c)) (width c) (height c) (of_picture c).out.answers)
 
 -- ---- behind a smoothing
-pub carried_smooth_series : (s : series.SeriesCall) (c : SeriesCall) → series.number s ≡ 0 → plan c ≡ series.plan s → (of_series c).out.bound ≡ series.bound s → (of_series c).out.results ≡ series.resultsLeft s → length (of_series c).out.cells ≡ length (of_series c).out.results
+pub carried_smooth_series : (s : series.SeriesCall) (c : SeriesCall) → series.number s ≡ 0 → plan c ≡ series.plan s → (of_series c).out.bound ≡ series.bound s → (of_series c).out.results ≡ series.results_left s → length (of_series c).out.cells ≡ length (of_series c).out.results
     → ((of_series c).out.answer.number ≡ 0) × ((of_series c).carry ≡ 0) × (total (of_series c).out.left ≡ total (series.samples s))
 carried_smooth_series s c e p m r n =
-    let is = r ∙ series.done-whole s e in
-    let done = (carry_series_allowed c).1 (series_smoothed p m is n ((series.done-allowed s).0 e)) in
+    let is = r ∙ series.done_whole s e in
+    let done = (carry_series_allowed c).1 (series_smoothed p m is n ((series.done_allowed s).0 e)) in
     let (k, t) = carried_series_true c done (series.samples s) (is ∙ ap (λ (q : Plan). smoothing.results fold (stages_of q) (series.samples s)) (sym p)) in
     (done, k, t)
 
@@ -204,12 +204,12 @@ picture_is : {p q t u : Plan} {W X H Y : ℕ} (f : List ℤ) → p ≡ q → t �
 picture_is f p t w h = rw (p, t, w, h)
 
 pub carried_smooth_picture : (s : pictures.PictureCall) (c : PictureCall) → pictures.number s ≡ 0 → across c ≡ pictures.across s → down c ≡ pictures.down s → (of_picture c).out.bound ≡ pictures.bound s → width c ≡ pictures.width s → height c ≡ pictures.height s
-    → (of_picture c).out.results ≡ pictures.resultsLeft s → length (of_picture c).out.cells ≡ length (of_picture c).out.results
+    → (of_picture c).out.results ≡ pictures.results_left s → length (of_picture c).out.cells ≡ length (of_picture c).out.results
     → ((of_picture c).out.answer.number ≡ 0) × ((of_picture c).carry ≡ 0) × (total (of_picture c).out.left ≡ total (pictures.samples s))
 carried_smooth_picture s c e p t m w h r n =
     let f = pictures.samples s in
-    let ok = (pictures.picture-allowed s).0 e in
-    let is = r ∙ pictures.picture-whole s e in
+    let ok = (pictures.picture_allowed s).0 e in
+    let is = r ∙ pictures.picture_whole s e in
     let done = (carry_picture_allowed c).1 (picture_smoothed p t m w h is n ok) in
     let (k, x) = carried_picture_true c done f (ok.count ∙ ap₂ ◌*◌ (sym w) (sym h)) (is ∙ picture_is f p t w h) in
     (done, k, x)

@@ -86,22 +86,22 @@ module _ (c : DoublesCall) where
   number_is = ap (λ (x : meant.Answer). x.number) answer_is
 
   pub doubles_in_lowest : (number c ≢ 0 → Applies (number c) (rows c)) × ((n : ℕ) → Applies n (rows c) → number c ≤ n)
-  doubles_in_lowest = number_lowest (rows c) number_is (tested.double-rising _ _ _)
+  doubles_in_lowest = number_lowest (rows c) number_is (tested.double_rising _ _ _)
 
   pub doubles_in_done : Exactly (number c ≡ 0) ((n : ℕ) → Applies n (rows c) → ⊥)
-  doubles_in_done = number_none (rows c) number_is (tested.double-numbered _ _ _)
+  doubles_in_done = number_none (rows c) number_is (tested.double_numbered _ _ _)
 
   pub doubles_in_allowed : Exactly (number c ≡ 0) (Allowed c)
-  doubles_in_allowed = (λ e. tested.doubles-allowed _ _ _ (sym number_is ∙ e), λ ok. number_is ∙ ap (λ (x : meant.Answer). x.number) (tested.allowed-doubles _ _ _ ok))
+  doubles_in_allowed = (λ e. tested.doubles_allowed _ _ _ (sym number_is ∙ e), λ ok. number_is ∙ ap (λ (x : meant.Answer). x.number) (tested.allowed_doubles _ _ _ ok))
 
   pub doubles_in_place_11 : number c ≡ 11 → FirstAt (length (doubles c)) (λ i. WholeDouble (bound c) (double c i) → ⊥) (place c)
-  doubles_in_place_11 = tested.double-position _ _ _ answer_is
+  doubles_in_place_11 = tested.double_position _ _ _ answer_is
 
   pub doubles_in_place_other : number c ≢ 11 → place c ≡ 0
-  doubles_in_place_other = tested.double-no-position _ _ _ answer_is
+  doubles_in_place_other = tested.double_no_position _ _ _ answer_is
 
   pub doubles_in_bad : Counted (λ i. WholeDouble (bound c) (double c i) → ⊥) (length (doubles c)) (rows c) (checked_answer c.answered)
-  doubles_in_bad = tested.double-bad _ _ _ answer_is
+  doubles_in_bad = tested.double_bad _ _ _ answer_is
 
   pub doubles_in_unchanged : number c ≢ 0 → samples_left c ≡ samples c
   unfolding doubles_in

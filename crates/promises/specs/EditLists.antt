@@ -8,7 +8,9 @@
 --   edits_smoothing    after any edits of a fresh smoothing, a call that smooths the samples then held, under any bound, and is done leaves just the results then stored
 --   edits_smoothed     smooth, edit, smooth again, under one plan and bound: where the first is done, so is the last with slices of the asked lengths, and leaves just the results then stored
 use Rattle.std.specs.Prelude.{ℕ, ◌≡◌, refl, ◌≢◌, Bool, true, false, cond, List, [], ◌∷◌, eqb, length, set, ℤ}
-use Rattle.std.proofs.Common.{sym, ap, ◌∙◌, subst, length-set}
+use Rattle.std.proofs.Common.{sym, ap, ap₂, ◌∙◌, subst, length-set}
+use Rattle.meaning.specs.Extension.{fold}
+use Rattle.meaning.specs.Smoothing as smoothing
 use Rattle.meaning.specs.Bounds.{AllowedLength, AllowedSeries}
 use Rattle.plan.specs.declared.Plan.{Plan}
 use Rattle.plan.specs.Structs.{stages_of}
@@ -31,7 +33,7 @@ written f (c ∷ cs) = written (cond (eqb (number c) 0) (set f (position c) (val
 
 length_written : (f : List ℤ) (cs : List EditCall) → length (written f cs) ≡ length f
 length_written f [] = refl
-length_written f (c ∷ cs) = length_written _ cs ∙ either (eqb (number c) 0)
+length_written f (c ∷ cs) = length_written (cond (eqb (number c) 0) (set f (position c) (value c)) f) cs ∙ either (eqb (number c) 0)
   where
     either : (b : Bool) → length (cond b (set f (position c) (value c)) f) ≡ length f
     either true = length-set f (position c) (value c)
@@ -57,18 +59,19 @@ module _ (p : Plan) (M : ℕ) where
 
 -- ---- beside calls of smoothing
 abbrev pub smoothed : SeriesCall → Stored
-smoothed x = record { samples = smooth.samples x; results = smooth.resultsLeft x }
+smoothed x = record { samples = smooth.samples x; results = smooth.results_left x }
 
 pub edits_smoothing : (p : Plan) (M : ℕ) (x : Stored) (cs : List EditCall) (y : Stored) → Edits p M x cs y → Fresh p x
-    → (z : SeriesCall) → smooth.plan z ≡ p → smooth.samples z ≡ y.samples → smooth.number z ≡ 0 → smooth.resultsLeft z ≡ y.results
-edits_smoothing p M x cs y k h z a e d = done_whole z d ∙ rw (a, e) (sym (edits_fresh p M x cs y k h).1)
+    → (z : SeriesCall) → smooth.plan z ≡ p → smooth.samples z ≡ y.samples → smooth.number z ≡ 0 → smooth.results_left z ≡ y.results
+edits_smoothing p M x cs y k h z a e d =
+    done_whole z d ∙ ap₂ (λ (q : Plan) (f : List ℤ). smoothing.results fold (stages_of q) f) a e ∙ sym (edits_fresh p M x cs y k h).1
 
 still_allowed : {p q : Plan} {M L N nr nw : ℕ} {f g : List ℤ} → q ≡ p → L ≡ M → f ≡ g → length g ≡ N → AllowedLength (stages_of p) M N → Within M g → nr ≡ length g → nw ≡ length g → AllowedSeries (stages_of q) L f nr nw
 still_allowed a b e n ok h r w = rw (a, b, e) (record { common = rw n ok; results = r; work = w; samples = h })
 
 pub edits_smoothed : (x : SeriesCall) → smooth.number x ≡ 0 → (cs : List EditCall) (y : Stored) → Edits (smooth.plan x) (smooth.bound x) (smoothed x) cs y
     → (z : SeriesCall) → smooth.plan z ≡ smooth.plan x → smooth.bound z ≡ smooth.bound x → smooth.samples z ≡ y.samples → length (smooth.results z) ≡ length y.samples → length (smooth.work z) ≡ length y.samples
-    → (smooth.number z ≡ 0) × (smooth.resultsLeft z ≡ y.results)
+    → (smooth.number z ≡ 0) × (smooth.results_left z ≡ y.results)
 edits_smoothed x d cs y k z p M f r w =
     let fresh = done_whole x d in
     let ok = (done_allowed x).0 d in

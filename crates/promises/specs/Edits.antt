@@ -164,38 +164,38 @@ module _ (c : EditCall) where
   outcome_number = ap (λ (x : meant.Answer). x.number) c.learnt.answer
 
   pub edit_lowest : (number c ≢ 0 → Applies (number c) (rows c)) × ((n : ℕ) → Applies n (rows c) → number c ≤ n)
-  edit_lowest = number_lowest (rows c) number_is (tested.edit-rising _ _ _ _ _ _ _ _)
+  edit_lowest = number_lowest (rows c) number_is (tested.edit_rising _ _ _ _ _ _ _ _)
 
   pub edit_done : Exactly (number c ≡ 0) ((n : ℕ) → Applies n (rows c) → ⊥)
-  edit_done = number_none (rows c) number_is (tested.edit-numbered _ _ _ _ _ _ _ _)
+  edit_done = number_none (rows c) number_is (tested.edit_numbered _ _ _ _ _ _ _ _)
 
   pub edit_allowed : Exactly (number c ≡ 0) (Allowed c)
-  edit_allowed = (λ e. tested.edit-allowed _ _ _ _ _ _ _ _ (sym number_is ∙ e), λ ok. number_is ∙ ap (λ (x : meant.Answer). x.number) (tested.allowed-edit _ _ _ _ _ _ _ _ ok))
+  edit_allowed = (λ e. tested.edit_allowed _ _ _ _ _ _ _ _ (sym number_is ∙ e), λ ok. number_is ∙ ap (λ (x : meant.Answer). x.number) (tested.allowed_edit _ _ _ _ _ _ _ _ ok))
 
   pub edit_place_11 : number c ≡ 11 → (place c ≡ position c) × (bound c < nat_abs (old c))
-  edit_place_11 = tested.edit-old _ _ _ _ _ _ _ _ answer_is
+  edit_place_11 = tested.edit_old _ _ _ _ _ _ _ _ answer_is
 
   pub edit_place_12 : number c ≡ 12 → FirstAt (length (results c)) (TooLarge fold (stages c) (bound c * divisor (stages c)) (position c) (value c -ℤ old c) (results c)) (place c)
-  edit_place_12 = tested.edit-place _ _ _ _ _ _ _ _ answer_is
+  edit_place_12 = tested.edit_place _ _ _ _ _ _ _ _ answer_is
 
   pub edit_place_other : number c ≢ 11 → number c ≢ 12 → place c ≡ 0
-  edit_place_other = tested.edit-no-position _ _ _ _ _ _ _ _ answer_is
+  edit_place_other = tested.edit_no_position _ _ _ _ _ _ _ _ answer_is
 
   pub edit_bad : Counted (λ i. (i ≡ position c) × (bound c < nat_abs (at (samples c) i))) (length (samples c)) (rows c) (edit_answer c.answered)
-  edit_bad = tested.edit-bad _ _ _ _ _ _ _ _ answer_is
+  edit_bad = tested.edit_bad _ _ _ _ _ _ _ _ answer_is
 
   pub edit_bad_one : number c ≡ 11 → bad c ≡ 1
-  edit_bad_one = tested.edit-bad-one _ _ _ _ _ _ _ _ answer_is
+  edit_bad_one = tested.edit_bad_one _ _ _ _ _ _ _ _ answer_is
 
   pub edit_unchanged : number c ≢ 0 → (samples_left c ≡ samples c) × (results_left c ≡ results c) × (work_left c ≡ work c) × (count c ≡ 0)
   edit_unchanged h =
-      let (k, f, r, w) = law.edit-refused _ _ _ _ _ _ _ _ (λ e. h (outcome_number ∙ e)) in
+      let (k, f, r, w) = law.edit_refused _ _ _ _ _ _ _ _ (λ e. h (outcome_number ∙ e)) in
       (c.learnt.samples ∙ f, c.learnt.results ∙ r, c.learnt.work ∙ w, c.learnt.count ∙ k)
 
   -- an accepted edit
   module _ (e : number c ≡ 0) where
     kept : ((outcome c).count ≡ changed (results c) (new c)) × ((outcome c).samples ≡ set (samples c) (position c) (value c)) × ((outcome c).results ≡ new c) × ((outcome c).work ≡ zeros (work c))
-    kept = law.edit-done _ _ _ _ _ _ _ _ (sym outcome_number ∙ e)
+    kept = law.edit_done _ _ _ _ _ _ _ _ (sym outcome_number ∙ e)
 
     whole : results_left c ≡ new c
     whole = c.learnt.results ∙ kept.2
@@ -248,17 +248,17 @@ module _ (c : EditCall) where
       go (no e) = let (f, r, w, k) = edit_unchanged e in k ∙ sym (changed_none (results c)) ∙ ap (changed (results c)) (sym r)
 
   pub edit_never_12 : Fresh (plan c) (before c) → Within (bound c) (samples c) → number c ≢ 12
-  edit_never_12 h k n = tested.edit-never-12 _ _ _ _ _ _ _ _ half_sample_near h (to_sized k) (sym number_is ∙ n)
+  edit_never_12 h k n = tested.edit_never_12 _ _ _ _ _ _ _ _ half_sample_near h (to_sized k) (sym number_is ∙ n)
 
   pub edit_says : samples_left c ≡ cond (eqb (number c) 0) (set (samples c) (position c) (value c)) (samples c)
   unfolding edit_series if_done
   edit_says = c.learnt.samples ∙ ap (λ (n : ℕ). cond (eqb n 0) (set (samples c) (position c) (value c)) (samples c)) (sym number_is)
 
   pub edit_fresh : Fresh (plan c) (before c) → Fresh (plan c) (after c)
-  edit_fresh h = c.learnt.results ∙ law.edit-fresh _ _ _ _ _ _ _ _ half_sample_near h ∙ ap (smoothing.results fold (stages c)) (sym c.learnt.samples)
+  edit_fresh h = c.learnt.results ∙ law.edit_fresh _ _ _ _ _ _ _ _ half_sample_near h ∙ ap (smoothing.results fold (stages c)) (sym c.learnt.samples)
 
   pub edit_within_lem : Within (bound c) (samples c) → Within (bound c) (samples_left c)
-  edit_within_lem h i l = ((subst (Sized (bound c)) (sym c.learnt.samples) (law.edit-sized _ _ _ _ _ _ _ _ (to_sized h))).size i).bound
+  edit_within_lem h i l = ((subst (Sized (bound c)) (sym c.learnt.samples) (law.edit_sized _ _ _ _ _ _ _ _ (to_sized h))).size i).bound
 
 -- ---- one outcome
 outcome_is : {o : outcomes.Edited} {a : meant.Answer} {k : ℕ} {f r w : List ℤ} → Gives o a k f r w → ◌≡◌ {A = outcomes.Edited} (record { answer = a; count = k; samples = f; results = r; work = w }) o

@@ -94,7 +94,7 @@ pub host_smooth_series_one : (c d : SmoothSeriesHost) → smooth_series_given c 
 host_smooth_series_one c d e = smooth_is c.learnt ∙ ap (λ (x : SeriesGiven). series_outcome (series_taken x)) e ∙ sym (smooth_is d.learnt)
 
 pub host_smooth_series_is : (h : SmoothSeriesHost) (c : SeriesCall) → smooth_series_taken h ≡ (numbers_of (series.plan c), series.bound c, series.samples c, series.results c, series.work c)
-    → smooth_series_left h ≡ record { answer = checked_answer c.answered; results = series.resultsLeft c; work = series.workLeft c }
+    → smooth_series_left h ≡ record { answer = checked_answer c.answered; results = series.results_left c; work = series.work_left c }
 host_smooth_series_is h c e = smooth_is h.learnt ∙ ap series_outcome e ∙ sym (smooth_is c.learnt)
 
 -- ---- smoothing a picture: plans across and down, bound, width, height, samples, results, work
@@ -128,7 +128,7 @@ host_smooth_picture_one c d e = smooth_is c.learnt ∙ ap (λ (x : PictureGiven)
 
 pub host_smooth_picture_is : (h : SmoothPictureHost) (c : PictureCall)
     → smooth_picture_taken h ≡ (numbers_of (pictures.across c), numbers_of (pictures.down c), pictures.bound c, pictures.width c, pictures.height c, pictures.samples c, pictures.results c, pictures.work c)
-    → smooth_picture_left h ≡ record { answer = checked_answer c.answered; results = pictures.resultsLeft c; work = pictures.workLeft c }
+    → smooth_picture_left h ≡ record { answer = checked_answer c.answered; results = pictures.results_left c; work = pictures.work_left c }
 host_smooth_picture_is h c e = smooth_is h.learnt ∙ ap picture_outcome e ∙ sym (smooth_is c.learnt)
 
 -- ---- an edit: plan, bound, position, value, samples, results
@@ -183,7 +183,7 @@ unfolding edit_series
 edit_work x w n = rw (asked_length (stages x.0) (length x.4), n)
 
 pub host_edit_is : (h : EditSeriesHost) (c : EditCall) → edit_series_taken h ≡ (numbers_of (edits.plan c), edits.bound c, edits.position c, edits.value c, edits.samples c, edits.results c)
-    → length (edits.work c) ≡ edit_room (edits.stages c) (length (edits.samples c)) → edit_series_left h ≡ (edit_answer c.answered, edits.count c, edits.samplesLeft c, edits.resultsLeft c)
+    → length (edits.work c) ≡ edit_room (edits.stages c) (length (edits.samples c)) → edit_series_left h ≡ (edit_answer c.answered, edits.count c, edits.samples_left c, edits.results_left c)
 host_edit_is h c e n =
     edit_is h.learnt ∙ ap (λ (x : EditTaken). edit_outcome x (asked_by x.0 x.4)) e
     ∙ edit_work (numbers_of (edits.plan c), edits.bound c, edits.position c, edits.value c, edits.samples c, edits.results c) (edits.work c) n ∙ sym (edit_work_is c.learnt)

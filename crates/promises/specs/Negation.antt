@@ -69,11 +69,11 @@ pub record NegatedSeries (c d : series.SeriesCall) : Type 0 where
   pub results : length (series.results d) ≡ length (series.results c)
   pub work : length (series.work d) ≡ length (series.work c)
 
-pub smooth_series_negated : {c d : series.SeriesCall} → NegatedSeries c d → (d.answered ≡ c.answered) × (series.number c ≡ 0 → series.resultsLeft d ≡ map neg_ℤ (series.resultsLeft c))
+pub smooth_series_negated : {c d : series.SeriesCall} → NegatedSeries c d → (d.answered ≡ c.answered) × (series.number c ≡ 0 → series.results_left d ≡ map neg_ℤ (series.results_left c))
 smooth_series_negated {c} {d} h =
     let f = series.samples c in
     let a = answers _ _ _ _ _ _ d.learnt ∙ smooth_rows_same f (series_shape f h.plan h.samples) h.bound h.samples h.results h.work ∙ sym (answers _ _ _ _ _ _ c.learnt) in
-    (ap as_checked a, λ e. series.done-whole d (ap (λ (x : Answer). x.number) a ∙ e) ∙ series_results f h.plan h.samples ∙ ap (map neg_ℤ) (sym (series.done-whole c e)))
+    (ap as_checked a, λ e. series.done_whole d (ap (λ (x : Answer). x.number) a ∙ e) ∙ series_results f h.plan h.samples ∙ ap (map neg_ℤ) (sym (series.done_whole c e)))
 
 picture_results : (f : List ℤ) {g : List ℤ} {p q t u : Plan} {W X H Y : ℕ} → p ≡ q → t ≡ u → W ≡ X → H ≡ Y → g ≡ map neg_ℤ f
     → picture fold fold (stages_of p) (stages_of t) W H g ≡ map neg_ℤ (picture fold fold (stages_of q) (stages_of u) X Y f)
@@ -89,22 +89,22 @@ pub record NegatedPicture (c d : pictures.PictureCall) : Type 0 where
   pub results : length (pictures.results d) ≡ length (pictures.results c)
   pub work : length (pictures.work d) ≡ length (pictures.work c)
 
-pub smooth_picture_negated : {c d : pictures.PictureCall} → NegatedPicture c d → (d.answered ≡ c.answered) × (pictures.number c ≡ 0 → pictures.resultsLeft d ≡ map neg_ℤ (pictures.resultsLeft c))
+pub smooth_picture_negated : {c d : pictures.PictureCall} → NegatedPicture c d → (d.answered ≡ c.answered) × (pictures.number c ≡ 0 → pictures.results_left d ≡ map neg_ℤ (pictures.results_left c))
 smooth_picture_negated {c} {d} h =
     let f = pictures.samples c in
     let a = answers _ _ _ _ _ _ d.learnt ∙ smooth_rows_same f (picture_shape h.across h.down h.width h.height) h.bound h.samples h.results h.work ∙ sym (answers _ _ _ _ _ _ c.learnt) in
-    (ap as_checked a, λ e. pictures.picture-whole d (ap (λ (x : Answer). x.number) a ∙ e) ∙ picture_results f h.across h.down h.width h.height h.samples ∙ ap (map neg_ℤ) (sym (pictures.picture-whole c e)))
+    (ap as_checked a, λ e. pictures.picture_whole d (ap (λ (x : Answer). x.number) a ∙ e) ∙ picture_results f h.across h.down h.width h.height h.samples ∙ ap (map neg_ℤ) (sym (pictures.picture_whole c e)))
 
 -- ---- whole output behind a smoothing
 pub record EvenOfSeries (c : series.SeriesCall) (v : WholeSeries) : Type 0 where
   pub plan : v.plan ≡ series.plan c
   pub bound : v.bound ≡ series.bound c
   pub mode : v.mode ≡ 0
-  pub results : v.results ≡ series.resultsLeft c
+  pub results : v.results ≡ series.results_left c
   pub cells : length v.cells ≡ length v.results
 
 even_series_done : {c : series.SeriesCall} {v : WholeSeries} → EvenOfSeries c v → series.number c ≡ 0 → v.answered.number ≡ 0
-even_series_done {c} {v} h e = (whole_series_allowed v).1 (series_smoothed h.plan h.bound (h.results ∙ series.done-whole c e) h.cells ((series.done-allowed c).0 e), rw h.mode (omega arith))
+even_series_done {c} {v} h e = (whole_series_allowed v).1 (series_smoothed h.plan h.bound (h.results ∙ series.done_whole c e) h.cells ((series.done_allowed c).0 e), rw h.mode (omega arith))
 
 pub samples_negated_series : {c d : series.SeriesCall} → NegatedSeries c d → series.number c ≡ 0 → {v w : WholeSeries} → EvenOfSeries c v → EvenOfSeries d w → (v.answered.number ≡ 0) × (w.answered.number ≡ 0) × (w.left ≡ map neg_ℤ v.left)
 samples_negated_series {c} {d} h e {v} {w} i j =
@@ -125,11 +125,11 @@ pub record EvenOfPicture (c : pictures.PictureCall) (v : WholePicture) : Type 0 
   pub width : v.width ≡ pictures.width c
   pub height : v.height ≡ pictures.height c
   pub mode : v.mode ≡ 0
-  pub results : v.results ≡ pictures.resultsLeft c
+  pub results : v.results ≡ pictures.results_left c
   pub cells : length v.cells ≡ length v.results
 
 even_picture_done : {c : pictures.PictureCall} {v : WholePicture} → EvenOfPicture c v → pictures.number c ≡ 0 → v.answered.number ≡ 0
-even_picture_done {c} {v} h e = (whole_picture_allowed v).1 (picture_smoothed h.across h.down h.bound h.width h.height (h.results ∙ pictures.picture-whole c e) h.cells ((pictures.picture-allowed c).0 e), rw h.mode (omega arith))
+even_picture_done {c} {v} h e = (whole_picture_allowed v).1 (picture_smoothed h.across h.down h.bound h.width h.height (h.results ∙ pictures.picture_whole c e) h.cells ((pictures.picture_allowed c).0 e), rw h.mode (omega arith))
 
 pub samples_negated_picture : {c d : pictures.PictureCall} → NegatedPicture c d → pictures.number c ≡ 0 → {v w : WholePicture} → EvenOfPicture c v → EvenOfPicture d w → (v.answered.number ≡ 0) × (w.answered.number ≡ 0) × (w.left ≡ map neg_ℤ v.left)
 samples_negated_picture {c} {d} h e {v} {w} i j =

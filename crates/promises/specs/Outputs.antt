@@ -87,10 +87,10 @@ module _ {A : Type 0} {made : ℕ → List ℤ → List A} (o : Output made) whe
     output_whole = o.leaves ∙ if_done_done _ _ _ e
 
     pub output_small : (o.bound * o.shape.divisor ≤ max_result) × ((i : ℕ) → i < length o.results → nat_abs (at o.results i) ≤ o.bound * o.shape.divisor)
-    output_small = ((tested.output-bounds _ _ _ _ first_done).1, (tested.output-lent _ _ _ _ first_done).1.results)
+    output_small = ((tested.output_bounds _ _ _ _ first_done).1, (tested.output_lent _ _ _ _ first_done).1.results)
 
     pub output_divisor : o.shape.divisor ≤ max_result
-    output_divisor = omega (arith, (tested.output-bounds _ _ _ _ first_done).1, mul-le-mul_right o.shape.divisor (tested.output-bounds _ _ _ _ first_done).0.0)
+    output_divisor = omega (arith, (tested.output_bounds _ _ _ _ first_done).1, mul-le-mul_right o.shape.divisor (tested.output_bounds _ _ _ _ first_done).0.0)
 
 module _ {A : Type 0} {g : ℤ → ℕ → A} (o : Output (each g)) (e : o.answer.number ≡ 0) where
   pub output_length : length o.left ≡ length o.results
@@ -108,16 +108,16 @@ module _ (M : ℕ) (r : List ℤ) (n : ℕ) (own : List Row) (k : Behind own) {a
   )
 
   pub output_series : (ss : List Stage) → a ≡ first_of (output_rows (series_of ss (length r)) M r n ++ own) → Exactly (a.number ≡ 0) (AllowedSeriesOut ss M r n × Off own)
-  output_series ss = exactly (series_of ss (length r)) (tested.series-out-allowed ss M r n) (tested.allowed-series-out ss M r n)
+  output_series ss = exactly (series_of ss (length r)) (tested.series_out_allowed ss M r n) (tested.allowed_series_out ss M r n)
 
   pub series_divides : (ss : List Stage) → a ≡ first_of (output_rows (series_of ss (length r)) M r n ++ own) → a.number ≡ 0 → 0 < divisor ss
-  series_divides ss h e = tested.series-out-divisor ss M r n ((output_series ss h).0 e).0
+  series_divides ss h e = tested.series_out_divisor ss M r n ((output_series ss h).0 e).0
 
   pub output_picture : (hs vs : List Stage) (W H : ℕ) → a ≡ first_of (output_rows (picture_of hs vs W H) M r n ++ own) → Exactly (a.number ≡ 0) (AllowedPictureOut hs vs M W H r n × Off own)
-  output_picture hs vs W H = exactly (picture_of hs vs W H) (tested.picture-out-allowed hs vs M W H r n) (tested.allowed-picture-out hs vs M W H r n)
+  output_picture hs vs W H = exactly (picture_of hs vs W H) (tested.picture_out_allowed hs vs M W H r n) (tested.allowed_picture_out hs vs M W H r n)
 
   pub picture_divides : (hs vs : List Stage) (W H : ℕ) → a ≡ first_of (output_rows (picture_of hs vs W H) M r n ++ own) → a.number ≡ 0 → 0 < divisor hs * divisor vs
-  picture_divides hs vs W H h e = tested.picture-out-divisor hs vs M W H r n ((output_picture hs vs W H h).0 e).0
+  picture_divides hs vs W H h e = tested.picture_out_divisor hs vs M W H r n ((output_picture hs vs W H h).0 e).0
 
 pub alone : {A B : Type 0} → Exactly A (B × Off []) → Exactly A B
 alone h = (λ a. (h.0 a).0, λ b. h.1 (b, tt))
@@ -149,11 +149,11 @@ module _ {A : Type 0} (own : List Row) (k : Behind own) (g : ℤ → ℕ → A) 
 
 -- ---- behind a smoothing
 pub series_smoothed : {p q : Plan} {M L n nr nw : ℕ} {r f : List ℤ} → p ≡ q → M ≡ L → r ≡ smoothing.results fold (stages_of q) f → n ≡ length r → AllowedSeries (stages_of q) L f nr nw → AllowedSeriesOut (stages_of p) M r n
-series_smoothed {q} {f} p m r n ok = rw (p, m, r) (tested.series-smoothed-out fold (stages_of q) ok (n ∙ ap length r ∙ length_results fold (stages_of q) f))
+series_smoothed {q} {f} p m r n ok = rw (p, m, r) (tested.series_smoothed_out fold (stages_of q) ok (n ∙ ap length r ∙ length_results fold (stages_of q) f))
 
 pub picture_smoothed : {p q t u : Plan} {M L W X H Y n nr nw : ℕ} {r f : List ℤ} → p ≡ q → t ≡ u → M ≡ L → W ≡ X → H ≡ Y → r ≡ picture fold fold (stages_of q) (stages_of u) X Y f → n ≡ length r → AllowedPicture (stages_of q) (stages_of u) L X Y f nr nw
     → AllowedPictureOut (stages_of p) (stages_of t) M W H r n
-picture_smoothed {q} {u} {X} {Y} {f} p t m w h r n ok = rw (p, t, m, w, h, r) (tested.picture-smoothed-out fold fold (stages_of q) (stages_of u) ok (n ∙ ap length r ∙ length_picture fold fold (stages_of q) (stages_of u) X Y f))
+picture_smoothed {q} {u} {X} {Y} {f} p t m w h r n ok = rw (p, t, m, w, h, r) (tested.picture_smoothed_out fold fold (stages_of q) (stages_of u) ok (n ∙ ap length r ∙ length_picture fold fold (stages_of q) (stages_of u) X Y f))
 
 -- ---- two calls
 module _ {A : Type 0} {own more : List Row} {f g : ℤ → ℕ → A} (o : own ≡ more) (e : f ≡ g) where

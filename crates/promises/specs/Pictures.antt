@@ -124,16 +124,16 @@ module _ (c : PictureCall) where
   picture_lowest = smooth.lowest _ _ _ _ _ _ c.learnt
 
   pub picture_done : Exactly (number c ≡ 0) ((n : ℕ) → Applies n (rows c) → ⊥)
-  picture_done = smooth.done-exactly _ _ _ _ _ _ c.learnt
+  picture_done = smooth.done_exactly _ _ _ _ _ _ c.learnt
 
   pub picture_allowed : Exactly (number c ≡ 0) (Allowed c)
   picture_allowed = (
-    λ e. tested.picture-allowed _ _ _ _ _ _ _ _ (smooth.done-number _ _ _ _ _ _ c.learnt e),
-    λ ok. smooth.number-done _ _ _ _ _ _ c.learnt (ap (λ (x : meant.Answer). x.number) (tested.allowed-picture _ _ _ _ _ _ _ _ ok)),
+    λ e. tested.picture_allowed _ _ _ _ _ _ _ _ (smooth.done_number _ _ _ _ _ _ c.learnt e),
+    λ ok. smooth.number_done _ _ _ _ _ _ c.learnt (ap (λ (x : meant.Answer). x.number) (tested.allowed_picture _ _ _ _ _ _ _ _ ok)),
   )
 
   pub picture_place_11 : number c ≡ 11 → FirstAt (length (samples c)) (λ i. bound c < nat_abs (at (samples c) i)) (place c)
-  picture_place_11 = smooth.place-first _ _ _ _ _ _ c.learnt
+  picture_place_11 = smooth.place_first _ _ _ _ _ _ c.learnt
 
   pub picture_place_other : number c ≢ 11 → place c ≡ 0
   picture_place_other = smooth.place_other _ _ _ _ _ _ c.learnt

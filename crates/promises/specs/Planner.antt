@@ -114,16 +114,16 @@ module _ (c : PlannerCall) where
   number_is = ap (λ (p : outcomes.Planned). p.answer.number) whole
 
   pub planner_lowest : (number c ≢ 0 → Applies (number c) (rows c)) × ((n : ℕ) → Applies n (rows c) → number c ≤ n)
-  planner_lowest = number_lowest (rows c) number_is (rule.planner-rising _ _ _)
+  planner_lowest = number_lowest (rows c) number_is (rule.planner_rising _ _ _)
 
   pub planner_done : Exactly (number c ≡ 0) ((n : ℕ) → Applies n (rows c) → ⊥)
-  planner_done = number_none (rows c) number_is (rule.planner-numbered _ _ _)
+  planner_done = number_none (rows c) number_is (rule.planner_numbered _ _ _)
 
   pub planner_allowed : Exactly (number c ≡ 0) (Allowed c)
-  planner_allowed = (λ e. rule.sigma-allowed _ _ _ (sym number_is ∙ e), λ ok. number_is ∙ ap (λ (x : meant.Answer). x.number) (rule.allowed-sigma _ _ _ ok))
+  planner_allowed = (λ e. rule.sigma_allowed _ _ _ (sym number_is ∙ e), λ ok. number_is ∙ ap (λ (x : meant.Answer). x.number) (rule.allowed_sigma _ _ _ ok))
 
   pub planner_never_15 : number c ≢ 15
-  planner_never_15 e = rule.planner-never-15 _ _ _ (sym number_is ∙ e)
+  planner_never_15 e = rule.planner_never_15 _ _ _ (sym number_is ∙ e)
 
   pub planner_zeros : number c ≢ 0 → (radius c ≡ 0) × (edge c ≡ 0)
   unfolding plan_for
@@ -137,34 +137,34 @@ module _ (c : PlannerCall) where
     ok = planner_allowed.0 e
 
     q : 10000 ≤ Q c
-    q = rule.least-Q _ _ _ ok
+    q = rule.least_q _ _ _ ok
 
     stage_is : stage c ≡ stage_for (sigma c) (Q c) (inner c)
     unfolding plan_for
     stage_is =
         let n = sym number_is ∙ e in
-        same_stage (stage_for (sigma c) (Q c) (inner c)) (ap (λ (p : outcomes.Planned). p.radius) whole ∙ if_done_done _ _ _ n) (sym (rule.stage-inner (sigma c) (Q c) (inner c))) (ap (λ (p : outcomes.Planned). p.edge) whole ∙ if_done_done _ _ _ n)
+        same_stage (stage_for (sigma c) (Q c) (inner c)) (ap (λ (p : outcomes.Planned). p.radius) whole ∙ if_done_done _ _ _ n) (sym (rule.stage_inner (sigma c) (Q c) (inner c))) (ap (λ (p : outcomes.Planned). p.edge) whole ∙ if_done_done _ _ _ n)
 
     pub planner_radius : LargestRadius (sigma c) (Q c) (original c).radius
-    planner_radius = rule.radius-largest (sigma c) (Q c) q
+    planner_radius = rule.radius_largest (sigma c) (Q c) q
 
     pub planner_edge : NearestEdge (sigma c) (Q c) (inner c) (original c).radius (original c).edge
     planner_edge = record {
-      fits = rule.radius-fits (sigma c) (Q c) q;
-      positive = rule.edge-positive (sigma c) (Q c) q;
-      nearest = rule.edge-nearest (sigma c) (Q c) q (inner c);
-      lower = rule.edge-half (sigma c) (Q c) q (inner c);
-      most = rule.edge-most (sigma c) (Q c) q (inner c);
+      fits = rule.radius_fits (sigma c) (Q c) q;
+      positive = rule.edge_positive (sigma c) (Q c) q;
+      nearest = rule.edge_nearest (sigma c) (Q c) q (inner c);
+      lower = rule.edge_half (sigma c) (Q c) q (inner c);
+      most = rule.edge_most (sigma c) (Q c) q (inner c);
     }
 
     pub planner_below : (original c).edge ≢ inner c → stage c ≡ original c
-    planner_below h = stage_is ∙ rule.stage-below (sigma c) (Q c) (inner c) h
+    planner_below h = stage_is ∙ rule.stage_below (sigma c) (Q c) (inner c) h
 
     pub planner_full : (original c).edge ≡ inner c → stage c ≡ wider (original c)
-    planner_full h = stage_is ∙ rule.stage-full (sigma c) (Q c) (inner c) h
+    planner_full h = stage_is ∙ rule.stage_full (sigma c) (Q c) (inner c) h
 
     pub planner_taps : (m : ℤ) → tap (stage c) m ≡ tap (original c) m
-    planner_taps m = ap (λ t. tap t m) stage_is ∙ rule.stage-taps (sigma c) (Q c) (inner c) m
+    planner_taps m = ap (λ t. tap t m) stage_is ∙ rule.stage_taps (sigma c) (Q c) (inner c) m
 
     pub planner_kernel : ((m : ℤ) → kernel (found c) m ≡ kernel (replicate (passes c) (original c)) m) × (divisor (found c) ≡ divisor (replicate (passes c) (original c)))
     planner_kernel = (kernel_same (stage c) (original c) planner_taps (passes c), divisor_same (stage c) (original c) planner_taps (passes c))
@@ -173,7 +173,7 @@ module _ (c : PlannerCall) where
     planner_survey = survey_exact (sigma c) (passes c) (inner c) ok
 
     pub planner_plan : AllowedPlan (found c)
-    planner_plan = rw stage_is (rule.planned-allowed (sigma c) (passes c) (inner c) ok)
+    planner_plan = rw stage_is (rule.planned_allowed (sigma c) (passes c) (inner c) ok)
 
 -- ---- two calls
 abbrev back : outcomes.Planned → Planned

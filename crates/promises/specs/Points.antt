@@ -134,7 +134,7 @@ module _ (c : PointCall) where
   whole = c.learnt.answer
 
   answer_is : point_answer c.answered ≡ first_of (rows c)
-  answer_is = ap point_answer whole ∙ point_answer_of _ _ (λ e. off_done (rows c) (done_off (rows c) (tested.point-numbered _ _ _ _ _) e))
+  answer_is = ap point_answer whole ∙ point_answer_of _ _ (λ e. off_done (rows c) (done_off (rows c) (tested.point_numbered _ _ _ _ _) e))
 
   number_is : number c ≡ (first_of (rows c)).number
   number_is = ap (λ (x : meant.Answer). x.number) answer_is
@@ -149,22 +149,22 @@ module _ (c : PointCall) where
   point_case = ((is_value, λ k. ap (λ (q : Point). (point_answer q).number) k), (is_refused, λ k e. not_both (sym (is_value e) ∙ k)))
 
   pub point_lowest : (number c ≢ 0 → Applies (number c) (rows c)) × ((n : ℕ) → Applies n (rows c) → number c ≤ n)
-  point_lowest = number_lowest (rows c) number_is (tested.point-rising _ _ _ _ _)
+  point_lowest = number_lowest (rows c) number_is (tested.point_rising _ _ _ _ _)
 
   pub point_done : Exactly (number c ≡ 0) ((n : ℕ) → Applies n (rows c) → ⊥)
-  point_done = number_none (rows c) number_is (tested.point-numbered _ _ _ _ _)
+  point_done = number_none (rows c) number_is (tested.point_numbered _ _ _ _ _)
 
   pub point_allowed : Exactly (number c ≡ 0) (Allowed c)
-  point_allowed = (λ e. tested.point-allowed _ _ _ _ _ (sym number_is ∙ e), λ ok. number_is ∙ ap (λ (x : meant.Answer). x.number) (tested.allowed-point _ _ _ _ _ ok))
+  point_allowed = (λ e. tested.point_allowed _ _ _ _ _ (sym number_is ∙ e), λ ok. number_is ∙ ap (λ (x : meant.Answer). x.number) (tested.allowed_point _ _ _ _ _ ok))
 
   pub point_place_11 : number c ≡ 11 → FirstAt (length (samples c)) (λ i. Near c i × (bound c < nat_abs (at (samples c) i))) (place c)
-  point_place_11 = tested.point-position _ _ _ _ _ answer_is
+  point_place_11 = tested.point_position _ _ _ _ _ answer_is
 
   pub point_place_other : number c ≢ 11 → place c ≡ 0
-  point_place_other = tested.point-no-position _ _ _ _ _ answer_is
+  point_place_other = tested.point_no_position _ _ _ _ _ answer_is
 
   pub point_bad : Counted (λ i. Near c i × (bound c < nat_abs (at (samples c) i))) (length (samples c)) (rows c) (point_answer c.answered)
-  point_bad = tested.point-bad _ _ _ _ _ answer_is
+  point_bad = tested.point_bad _ _ _ _ _ answer_is
 
   pub point_unchanged : number c ≢ 0 → (work_left c ≡ work c) × (value c ≡ plus_zero)
   unfolding outcomes.point
@@ -206,7 +206,7 @@ module _ (c : PointCall) where
         let k = ap (λ (r : List ℤ). at r (position c)) (h ∙ ap (smoothing.results fold (stages c)) f) ∙ at_results fold (stages c) (samples c) (position c) (point_allowed.0 e).position in
         point_value_lem ∙ ap (λ (r : ℤ). ratio r (divisor (stages c))) (sym k)
 
-    pub point_smoothed : (x : SeriesCall) → series.number x ≡ 0 → series.plan x ≡ plan c → series.samples x ≡ samples c → value c ≡ ratio (at (series.resultsLeft x) (position c)) (divisor (stages c))
+    pub point_smoothed : (x : SeriesCall) → series.number x ≡ 0 → series.plan x ≡ plan c → series.samples x ≡ samples c → value c ≡ ratio (at (series.results_left x) (position c)) (divisor (stages c))
     point_smoothed x d p f = point_fresh (smoothed x) (subst (λ (q : Plan). Fresh q (smoothed x)) p (done_whole x d)) f
 
 -- ---- two calls
@@ -219,7 +219,7 @@ outcome_same p m i f w = rw (p, m, i, f, w) refl
 pub point_local : (c d : PointCall) → plan c ≡ plan d → bound c ≡ bound d → position c ≡ position d → length (work c) ≡ length (work d)
     → length (samples c) ≡ length (samples d) → ((i : ℕ) → i < length (samples c) → Near c i → at (samples c) i ≡ at (samples d) i) → c.answered ≡ d.answered
 point_local c d p m i w n k =
-    let (a, x) = tested.point-local (stages c) (bound c) (position c) (samples c) (samples d) n k half_sample_near (work c) (work d) w in
+    let (a, x) = tested.point_local (stages c) (bound c) (position c) (samples c) (samples d) n k half_sample_near (work c) (work d) w in
     c.learnt.answer ∙ ap₂ point_of a x ∙ ap answer (outcome_same p m i refl refl) ∙ sym d.learnt.answer
 
 pub point_one : (c d : PointCall) → plan c ≡ plan d → bound c ≡ bound d → position c ≡ position d → samples c ≡ samples d → work c ≡ work d → (c.answered ≡ d.answered) × (work_left c ≡ work_left d)

@@ -91,16 +91,16 @@ module _ (c : SeriesCall) where
   lowest_number = smooth.lowest _ _ _ _ _ _ c.learnt
 
   pub done_exactly : Exactly (number c ≡ 0) ((n : ℕ) → Applies n (rows c) → ⊥)
-  done_exactly = smooth.done-exactly _ _ _ _ _ _ c.learnt
+  done_exactly = smooth.done_exactly _ _ _ _ _ _ c.learnt
 
   pub done_allowed : Exactly (number c ≡ 0) (Allowed c)
   done_allowed = (
-    λ e. tested.series-allowed _ _ _ _ _ (smooth.done-number _ _ _ _ _ _ c.learnt e),
-    λ ok. smooth.number-done _ _ _ _ _ _ c.learnt (ap (λ (x : meant.Answer). x.number) (tested.allowed-series _ _ _ _ _ ok)),
+    λ e. tested.series_allowed _ _ _ _ _ (smooth.done_number _ _ _ _ _ _ c.learnt e),
+    λ ok. smooth.number_done _ _ _ _ _ _ c.learnt (ap (λ (x : meant.Answer). x.number) (tested.allowed_series _ _ _ _ _ ok)),
   )
 
   pub position_first : number c ≡ 11 → FirstAt (length (samples c)) (λ i. bound c < nat_abs (at (samples c) i)) (place c)
-  position_first = smooth.place-first _ _ _ _ _ _ c.learnt
+  position_first = smooth.place_first _ _ _ _ _ _ c.learnt
 
   pub position_other : number c ≢ 11 → place c ≡ 0
   position_other = smooth.place_other _ _ _ _ _ _ c.learnt

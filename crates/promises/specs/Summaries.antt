@@ -84,12 +84,12 @@ module _ (s : Shape) (M : ℕ) (r : List ℤ) {x : meant.Summary} (e : x ≡ sum
 pub summary_series_lem : (ss : List Stage) (M : ℕ) (r : List ℤ) {x : meant.Summary} → x ≡ summary_series ss M r → Exactly (x.answer.number ≡ 0) (AllowedSeriesOut ss M r (length r))
 summary_series_lem ss M r e =
     let is = number_of (series_of ss (length r)) M r e in
-    (λ z. tested.series-out-allowed ss M r _ (sym is ∙ z), λ ok. is ∙ ap (λ (a : Answer). a.number) (tested.allowed-series-out ss M r _ ok))
+    (λ z. tested.series_out_allowed ss M r _ (sym is ∙ z), λ ok. is ∙ ap (λ (a : Answer). a.number) (tested.allowed_series_out ss M r _ ok))
 
 pub summary_picture_lem : (hs vs : List Stage) (M W H : ℕ) (r : List ℤ) {x : meant.Summary} → x ≡ summary_picture hs vs M W H r → Exactly (x.answer.number ≡ 0) (AllowedPictureOut hs vs M W H r (length r))
 summary_picture_lem hs vs M W H r e =
     let is = number_of (picture_of hs vs W H) M r e in
-    (λ z. tested.picture-out-allowed hs vs M W H r _ (sym is ∙ z), λ ok. is ∙ ap (λ (a : Answer). a.number) (tested.allowed-picture-out hs vs M W H r _ ok))
+    (λ z. tested.picture_out_allowed hs vs M W H r _ (sym is ∙ z), λ ok. is ∙ ap (λ (a : Answer). a.number) (tested.allowed_picture_out hs vs M W H r _ ok))
 
 abbrev pub of_series : SeriesCall → Summing
 of_series c = record {
@@ -108,7 +108,7 @@ of_picture c = record {
   results = c.given.1.1.1.1.1.0.now;
   answered = summary_of c.answered;
   is = c.learnt;
-  some = λ z. tested.picture-out-some _ _ _ _ _ _ _ ((summary_picture_lem (stages_of (across c)) (stages_of (down c)) _ (width c) (height c) _ c.learnt).0 z);
+  some = λ z. tested.picture_out_some _ _ _ _ _ _ _ ((summary_picture_lem (stages_of (across c)) (stages_of (down c)) _ (width c) (height c) _ c.learnt).0 z);
 }
 
 pub summary_series_allowed : (c : SeriesCall) → Exactly ((of_series c).answered.answer.number ≡ 0) (AllowedSeriesOut (stages_of (plan c)) (of_series c).bound (of_series c).results (length (of_series c).results))
@@ -133,16 +133,16 @@ module _ (s : Summing) where
   number_is = number_of s.shape s.bound s.results s.is
 
   pub summary_number : (number ≢ 0 → Applies number (rows s)) × ((n : ℕ) → Applies n (rows s) → number ≤ n)
-  summary_number = number_lowest (rows s) number_is (tested.output-rising _ _ _ _)
+  summary_number = number_lowest (rows s) number_is (tested.output_rising _ _ _ _)
 
   pub summary_done : Exactly (number ≡ 0) ((n : ℕ) → Applies n (rows s) → ⊥)
-  summary_done = number_none (rows s) number_is (tested.output-numbered _ _ _ _)
+  summary_done = number_none (rows s) number_is (tested.output_numbered _ _ _ _)
 
   pub summary_place_12 : number ≡ 12 → FirstAt (length s.results) (λ i. s.bound * s.shape.divisor < nat_abs (at s.results i)) s.answered.answer.position
-  summary_place_12 = tested.output-position _ _ _ _ answer_is
+  summary_place_12 = tested.output_position _ _ _ _ answer_is
 
   pub summary_place_other : number ≢ 12 → s.answered.answer.position ≡ 0
-  summary_place_other = tested.output-no-position _ _ _ _ answer_is
+  summary_place_other = tested.output_no_position _ _ _ _ answer_is
 
   pub summary_zeros : number ≢ 0 → (s.answered.lowest ≡ plus_zero) × (s.answered.highest ≡ plus_zero) × (s.answered.lowest_at ≡ 0) × (s.answered.highest_at ≡ 0)
   unfolding summary
@@ -179,10 +179,10 @@ module _ (s : Summing) where
     highest_is = ap (λ (y : meant.Summary). y.highest) s.is ∙ if_done_done _ _ _ done
 
     pub summary_lowest : FirstAt (length r) (λ i. (j : ℕ) → j < length r → at r i ≤ℤ at r j) s.answered.lowest_at × (s.answered.lowest ≡ ratio (at r s.answered.lowest_at) s.shape.divisor)
-    summary_lowest = subst (λ (n : ℕ). FirstAt (length r) (λ i. (j : ℕ) → j < length r → at r i ≤ℤ at r j) n × (s.answered.lowest ≡ ratio (at r n) s.shape.divisor)) (sym lowest_at_lem) (extremes.lowest-place r (s.some e), lowest_is)
+    summary_lowest = subst (λ (n : ℕ). FirstAt (length r) (λ i. (j : ℕ) → j < length r → at r i ≤ℤ at r j) n × (s.answered.lowest ≡ ratio (at r n) s.shape.divisor)) (sym lowest_at_lem) (extremes.lowest_place r (s.some e), lowest_is)
 
     pub summary_highest : FirstAt (length r) (λ i. (j : ℕ) → j < length r → at r j ≤ℤ at r i) s.answered.highest_at × (s.answered.highest ≡ ratio (at r s.answered.highest_at) s.shape.divisor)
-    summary_highest = subst (λ (n : ℕ). FirstAt (length r) (λ i. (j : ℕ) → j < length r → at r j ≤ℤ at r i) n × (s.answered.highest ≡ ratio (at r n) s.shape.divisor)) (sym highest_at_lem) (extremes.highest-place r (s.some e), highest_is)
+    summary_highest = subst (λ (n : ℕ). FirstAt (length r) (λ i. (j : ℕ) → j < length r → at r j ≤ℤ at r i) n × (s.answered.highest ≡ ratio (at r n) s.shape.divisor)) (sym highest_at_lem) (extremes.highest_place r (s.some e), highest_is)
 
 -- ---- two calls
 abbrev back : meant.Summary → Summary

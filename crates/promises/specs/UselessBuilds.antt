@@ -87,7 +87,7 @@ module _ {K : ℕ} {f : List ℤ} (c : SeriesCall) (h : GivenSeries K f c) (ok :
   done : series.number c ≡ 0
   done = number_done _ _ _ _ _ _ c.learnt (smooth_same h.plan h.bound h.samples h.results h.work ∙ ok)
 
-  leaves : series.resultsLeft c ≡ smoothing.results fold (stages_of (planned K)) f
+  leaves : series.results_left c ≡ smoothing.results fold (stages_of (planned K)) f
   leaves = done_whole c done ∙ results_same h.plan h.samples
 
 abbrev Leaves : ℕ → List ℤ → List ℤ → Type 0
@@ -103,17 +103,17 @@ differ i n e = true≢false (sym (eq-eqb _ _ (ap (λ (f : List ℤ). nat_abs (at
 pub not_refused : (c : SeriesCall) → GivenSeries 1 spike c → series.number c ≡ 0
 not_refused c h = done c h leaving.0.0
 
-pub not_constant : (c : SeriesCall) → GivenSeries 1 spike c → (x : ℤ) → series.resultsLeft c ≢ x ∷ x ∷ x ∷ x ∷ x ∷ []
+pub not_constant : (c : SeriesCall) → GivenSeries 1 spike c → (x : ℤ) → series.results_left c ≢ x ∷ x ∷ x ∷ x ∷ x ∷ []
 not_constant c h x e =
     let k = sym (leaves c h leaving.0.0 ∙ leaving.0.1) ∙ e in
     let i : nat_abs (pos 0) ≡ nat_abs x = ap (λ (f : List ℤ). nat_abs (at f 0)) k in
     let j : nat_abs (pos 9) ≡ nat_abs x = ap (λ (f : List ℤ). nat_abs (at f 1)) k in
     omega (arith, i, j)
 
-pub not_same : (c d : SeriesCall) → GivenSeries 1 spike c → GivenSeries 1 start d → series.resultsLeft c ≢ series.resultsLeft d
+pub not_same : (c d : SeriesCall) → GivenSeries 1 spike c → GivenSeries 1 start d → series.results_left c ≢ series.results_left d
 not_same c d g h e = differ 0 refl (sym (leaves c g leaving.0.0 ∙ leaving.0.1) ∙ e ∙ leaves d h leaving.1.0 ∙ leaving.1.1)
 
-pub not_one_pass : (c : SeriesCall) → GivenSeries 2 spike c → series.resultsLeft c ≢ smoothing.pass fold (stage_of (planned 2)) spike
+pub not_one_pass : (c : SeriesCall) → GivenSeries 2 spike c → series.results_left c ≢ smoothing.pass fold (stage_of (planned 2)) spike
 not_one_pass c h e = differ 0 refl (sym (leaves c h leaving.2.0 ∙ leaving.2.1) ∙ e ∙ leaving.3)
 
 -- ---- an edit
@@ -141,13 +141,13 @@ unfolding edit_series edit_rows gained changed count_where if_done near reach we
 set_to_0 w n = rw n refl
 
 module _ (c : EditCall) where
-  gives : {v : ℤ} → GivenEdit v c → Gives (edited v (edits.work c)) (edit_answer c.answered) (edits.count c) (edits.samplesLeft c) (edits.resultsLeft c) (edits.workLeft c)
-  gives h = subst (λ (o : Edited). Gives o (edit_answer c.answered) (edits.count c) (edits.samplesLeft c) (edits.resultsLeft c) (edits.workLeft c)) (edit_same _ h.plan h.bound h.position h.value h.samples h.results) c.learnt
+  gives : {v : ℤ} → GivenEdit v c → Gives (edited v (edits.work c)) (edit_answer c.answered) (edits.count c) (edits.samples_left c) (edits.results_left c) (edits.work_left c)
+  gives h = subst (λ (o : Edited). Gives o (edit_answer c.answered) (edits.count c) (edits.samples_left c) (edits.results_left c) (edits.work_left c)) (edit_same _ h.plan h.bound h.position h.value h.samples h.results) c.learnt
 
   pub edit_not_refused : GivenEdit (pos 3) c → edits.number c ≡ 0
   edit_not_refused h = ap (λ (a : meant.Answer). a.number) (gives h).answer ∙ (set_to_3 _ h.work).0
 
-  pub edit_does_something : GivenEdit (pos 3) c → (edits.resultsLeft c ≢ edits.results c) × (edits.samplesLeft c ≢ edits.samples c)
+  pub edit_does_something : GivenEdit (pos 3) c → (edits.results_left c ≢ edits.results c) × (edits.samples_left c ≢ edits.samples c)
   edit_does_something h =
       let (a, k, f, r) = set_to_3 _ h.work in
       (λ e. differ 3 refl (sym ((gives h).results ∙ r) ∙ e ∙ h.results), λ e. differ 4 refl (sym ((gives h).samples ∙ f) ∙ e ∙ h.samples))
@@ -215,7 +215,7 @@ planner_bounds : {s K b : ℕ} → s ≡ 500 → K ≡ 3 → b ≡ 16 → Allowe
 planner_bounds s k b = record { passes = (omega arith, omega arith); inner = (omega arith, omega arith); sigma = (omega arith, omega arith) }
 
 pub planner_not_refused : (c : PlannerCall) → planner.sigma c ≡ 500 → planner.passes c ≡ 3 → planner.inner c ≡ 16 → planner.number c ≡ 0
-planner_not_refused c s k b = (planner.planner-allowed c).1 (planner_bounds s k b)
+planner_not_refused c s k b = (planner.planner_allowed c).1 (planner_bounds s k b)
 
 page_number : (read_record page).answer.number ≡ 0
 unfolding record_of field bytes sample_bytes read_record begins reading number
@@ -225,4 +225,4 @@ pub read_not_refused : (c : ReadCall) → records.bytes c ≡ page → (records.
 read_not_refused c e = ap (λ (j : Job). j.answer.number) (c.learnt ∙ ap read_record e) ∙ page_number
 
 pub write_not_refused : (c : WriteCall) → records.count c ≡ 3 → length (records.room c) ≡ 39 → c.answered.number ≡ 0
-write_not_refused c n r = records.done-write c (omega (arith, n)) (omega (arith, n)) (r ∙ sym (ap record_size n))
+write_not_refused c n r = records.done_write c (omega (arith, n)) (omega (arith, n)) (r ∙ sym (ap record_size n))
