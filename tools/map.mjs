@@ -1,7 +1,7 @@
 // Holds docs/PROMISES.md, docs/LAWS.md and docs/EXCEPTIONS.md to the tree. Every backticked name has to be there, and be what its
 // column says: a definition, a theorem, a must-fail edit. Every must-fail edit and every theorem of `promises` has to
-// be named, and every public call with a theorem that it has one outcome and with two edits. What a theorem says is
-// not read: that is for a person.
+// be named, and every public call with a theorem that it has one outcome and with two edits. Every export has the clause
+// of the call that it stands for. What a theorem says is not read: that is for a person.
 import { existsSync, readFileSync, readdirSync } from 'node:fs';
 import { dirname, join } from 'node:path';
 import { fileURLToPath } from 'node:url';

@@ -1,3 +1,2 @@
 // Laws of whole numbers only: see specs/.
 #![tactic(auto)]
-

@@ -1,3 +1,2 @@
 // Definitions only: see specs/.
 #![tactic(auto)]
-

@@ -1,3 +1,2 @@
 // Theorems over the calls' own contracts: all in specs/.
 #![tactic(auto)]
-

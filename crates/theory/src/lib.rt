@@ -1,3 +1,2 @@
 // Laws of the definitions only: see specs/.
 #![tactic(auto)]
-
