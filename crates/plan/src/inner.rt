@@ -27,6 +27,7 @@ pub fn outside(low: u64, high: u64, x: u64) -> bool
 }
 
 // The first of four rows, numbered from `number` on, whose test is true.
+#[tactic(auto, unfolding(meaning::specs::Refusals::first_of))]
 pub fn first_row(number: u64, a: bool, b: bool, c: bool, d: bool) -> u64
     requires { number ≤ 5 }
     ensures { plain result ≡ R.first_of ((number when a) ∷ (number + 1 when b) ∷ (number + 2 when c) ∷ (number + 3 when d) ∷ []) }
