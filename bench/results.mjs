@@ -158,7 +158,7 @@ export class Page {
     const rounded = PROGRAMS.filter((each) => each.rounded !== undefined && !left.includes(each.title.split(',')[0]));
     return [
       '# Results', '',
-      '`bench/run` wrote this page; [README.md](README.md) says how to read it.', '',
+      '`bench/run` wrote this page.', '',
       ...machine.map(({ name, what }) => `- ${name.replace('CC', this.#cc)}: ${what}`),
       ...emulated.map(({ name, why }) => `- **${name} runs emulated (${why}): no times of it**`),
       ...(left.length === 0 ? [] : [`- not installed, left out: ${left.join(', ')}`]),
