@@ -1,25 +1,22 @@
--- The code's structs, as the definitions have them.
+-- The code's types, as the definitions have them.
 --   stage_of p    one pass of the plan p
 --   stages_of p   its stages: K equal ones
---   answer_of a   the answer of a call that tests no samples: none is bad
---   plain n      the answer n, with position 0 and no bad sample
---   checked_answer c, edit_answer e   the answers of a call that tests samples, and of an edit
---   as_answer m, as_checked m   the struct that has the fields of the answer m
---   point_answer q, point_value q   answer and value of each case of what a point answers; a refused one has plus zero
---   point_of a x    what a point answers: the value x where a is done, else a
--- Laws: point_of_done, point_of_refused (which case it is); point_answer_of (where 0 is done, its answer is a).
-use Rattle.std.specs.Prelude.{ℕ, ◌≡◌, cond, List, eqb, Float}
-use Rattle.std.proofs.Common.{sym, ap, ◌∙◌, eq-eqb, ne_eqb}
+--   plain n       the answer n, with position 0 and no bad sample
+--   refused e     the answer of a call that is refused for e
+--   answer_of r   the answer of a call that ended with r: 0 where it is done
+--   value_or d r  what it gave, d where it is refused
+--   refusal_of a  the refusal of the answer a, and end_of x a  the end of a call with that answer that gives x where it is done
+-- Laws: refused_number, refused_above (a refusal's number is not 0); failed_number, passed_number (of an end tested); passed_on (of one that a `?` passes on);
+-- refusal_back, end_back (an answer tells the refusal, and with the value the end), one_end, one_answer (so it is one).
+use Rattle.std.specs.Prelude.{ℕ, ◌<◌, ◌≡◌, refl, true, false, cond, eqb, List, Result, Ok, Err, is_err, IsErrAnd, ⊤}
+use Rattle.std.proofs.Common.{sym, ◌∙◌, eq-eqb, true≢false, arith}
 use Rattle.std.proofs.Math.Decide.{ℕ_discrete}
+use Rattle.std.proofs.lemmas.Result.{err_from_is_err_and}
 use Rattle.meaning.specs.Kernel.{Stage, plan}
 use Rattle.meaning.specs.Refusals as meant
 use Rattle.plan.specs.declared.Plan.{Plan}
-use Rattle.meaning.specs.Values.{plus_zero}
-use Rattle.plan.specs.declared.Answer.{Answer}
-use Rattle.plan.specs.declared.Checked.{Checked}
-use Rattle.plan.specs.declared.Edited.{Edited}
-use Rattle.plan.specs.declared.Point.{Point}
-use Rattle.plan.specs.declared.Point.TheVariants.{Value, Refused}
+use Rattle.plan.specs.declared.Refusal.{Refusal}
+use Rattle.plan.specs.declared.Refusal.TheVariants.{Passes, Radius, InnerWeight, EdgeWeight, Bound, Product, Size, Length, Position, NewValue, BadSample, BadResult, Sigma, Record, Mode}
 
 abbrev pub stage_of : Plan → Stage
 stage_of p = record { radius = p.radius; inner = p.inner; edge = p.edge }
@@ -27,44 +24,119 @@ stage_of p = record { radius = p.radius; inner = p.inner; edge = p.edge }
 abbrev pub stages_of : Plan → List Stage
 stages_of p = plan p.radius p.inner p.edge p.passes
 
-abbrev pub answer_of : Answer → meant.Answer
-answer_of a = record { number = a.number; position = a.position; bad = 0 }
-
 abbrev pub plain : ℕ → meant.Answer
 plain n = record { number = n; position = 0; bad = 0 }
 
-abbrev pub checked_answer : Checked → meant.Answer
-checked_answer c = record { number = c.number; position = c.position; bad = c.bad }
+abbrev pub refused : Refusal → meant.Answer
+refused Passes = plain 1
+refused Radius = plain 2
+refused InnerWeight = plain 3
+refused EdgeWeight = plain 4
+refused Bound = plain 5
+refused Product = plain 6
+refused Size = plain 7
+refused Length = plain 8
+refused Position = plain 9
+refused NewValue = plain 10
+refused (BadSample i k) = record { number = 11; position = i; bad = k }
+refused (BadResult i) = record { number = 12; position = i; bad = 0 }
+refused Sigma = plain 13
+refused Record = plain 14
+refused Mode = plain 21
 
-abbrev pub as_answer : meant.Answer → Answer
-as_answer m = record { number = m.number; position = m.position }
+abbrev pub answer_of : {A : Type 0} → Result A Refusal → meant.Answer
+answer_of (Ok x) = plain 0
+answer_of (Err e) = refused e
 
-abbrev pub as_checked : meant.Answer → Checked
-as_checked m = record { number = m.number; position = m.position; bad = m.bad }
+-- ---- back from an answer
+abbrev pub refusal_of : meant.Answer → Refusal
+refusal_of a =
+    cond (eqb a.number 1) Passes
+    (cond (eqb a.number 2) Radius
+    (cond (eqb a.number 3) InnerWeight
+    (cond (eqb a.number 4) EdgeWeight
+    (cond (eqb a.number 5) Bound
+    (cond (eqb a.number 6) Product
+    (cond (eqb a.number 7) Size
+    (cond (eqb a.number 8) Length
+    (cond (eqb a.number 9) Position
+    (cond (eqb a.number 10) NewValue
+    (cond (eqb a.number 11) (BadSample a.position a.bad)
+    (cond (eqb a.number 12) (BadResult a.position)
+    (cond (eqb a.number 13) Sigma
+    (cond (eqb a.number 14) Record Mode)))))))))))))
 
-abbrev pub edit_answer : Edited → meant.Answer
-edit_answer e = record { number = e.number; position = e.position; bad = e.bad }
+abbrev pub value_or : {A : Type 0} → A → Result A Refusal → A
+value_or d (Ok x) = x
+value_or d (Err e) = d
 
-abbrev pub point_answer : Point → meant.Answer
-point_answer (Value x) = plain 0
-point_answer (Refused n i k) = record { number = n; position = i; bad = k }
+abbrev pub end_of : {A : Type 0} → A → meant.Answer → Result A Refusal
+end_of x a = cond (eqb a.number 0) (Ok x) (Err (refusal_of a))
 
-abbrev pub point_value : Point → Float
-point_value (Value x) = x
-point_value (Refused n i k) = plus_zero
+pub refusal_back : (e : Refusal) → refusal_of (refused e) ≡ e
+refusal_back Passes = refl
+refusal_back Radius = refl
+refusal_back InnerWeight = refl
+refusal_back EdgeWeight = refl
+refusal_back Bound = refl
+refusal_back Product = refl
+refusal_back Size = refl
+refusal_back Length = refl
+refusal_back Position = refl
+refusal_back NewValue = refl
+refusal_back (BadSample i k) = refl
+refusal_back (BadResult i) = refl
+refusal_back Sigma = refl
+refusal_back Record = refl
+refusal_back Mode = refl
 
-abbrev pub point_of : meant.Answer → Float → Point
-point_of a x = cond (eqb a.number 0) (Value x) (Refused a.number a.position a.bad)
+-- a refusal's number is not 0
+refused_test : (e : Refusal) → eqb (refused e).number 0 ≡ false
+refused_test Passes = refl
+refused_test Radius = refl
+refused_test InnerWeight = refl
+refused_test EdgeWeight = refl
+refused_test Bound = refl
+refused_test Product = refl
+refused_test Size = refl
+refused_test Length = refl
+refused_test Position = refl
+refused_test NewValue = refl
+refused_test (BadSample i k) = refl
+refused_test (BadResult i) = refl
+refused_test Sigma = refl
+refused_test Record = refl
+refused_test Mode = refl
 
-pub point_of_done : (a : meant.Answer) (x : Float) → a.number ≡ 0 → point_of a x ≡ Value x
-point_of_done a x e = rw (eq-eqb a.number 0 e)
+pub refused_number : (e : Refusal) → (refused e).number ≡ 0 → ⊥
+refused_number e z = true≢false (sym (eq-eqb (refused e).number 0 z) ∙ refused_test e)
 
-pub point_of_refused : (a : meant.Answer) (x : Float) → (a.number ≡ 0 → ⊥) → point_of a x ≡ Refused a.number a.position a.bad
-point_of_refused a x e = rw (ne_eqb a.number 0 e)
-
-pub point_answer_of : (a : meant.Answer) (x : Float) → (a.number ≡ 0 → a ≡ plain 0) → point_answer (point_of a x) ≡ a
-point_answer_of a x h = go (ℕ_discrete a.number 0)
+pub refused_above : (e : Refusal) → 0 < (refused e).number
+refused_above e = go (ℕ_discrete (refused e).number 0)
   where
-    go : Dec (a.number ≡ 0) → point_answer (point_of a x) ≡ a
-    go (yes e) = ap point_answer (point_of_done a x e) ∙ sym (h e)
-    go (no e) = ap point_answer (point_of_refused a x e)
+    go : Dec ((refused e).number ≡ 0) → 0 < (refused e).number
+    go (yes z) = absurd (refused_number e z)
+    go (no n) = omega arith
+
+module _ {A : Type 0} where
+  pub failed_number : (r : Result A Refusal) → is_err r ≡ true → (answer_of r).number ≡ 0 → ⊥
+  failed_number (Ok x) h = absurd (true≢false (sym h))
+  failed_number (Err e) h = refused_number e
+
+  pub passed_number : (r : Result A Refusal) → is_err r ≡ false → (answer_of r).number ≡ 0
+  passed_number (Ok x) h = refl
+  passed_number (Err e) h = absurd (true≢false h)
+
+  -- what a `?` passes on
+  pub passed_on : (e : Refusal) {a : meant.Answer} (r : Result A Refusal) → IsErrAnd r (λ y. y ≡ e) → refused e ≡ a → answer_of r ≡ a
+  passed_on e r h k = let p = err_from_is_err_and r h in rw (p.1, p.2) k
+
+  pub end_back : (d : A) (r : Result A Refusal) → end_of (value_or d r) (answer_of r) ≡ r
+  end_back d (Ok x) = refl
+  end_back d (Err e) = rw (refused_test e, refusal_back e) refl
+
+  pub one_end : (d : A) (r s : Result A Refusal) → answer_of r ≡ answer_of s → value_or d r ≡ value_or d s → r ≡ s
+  one_end d r s a v = sym (end_back d r) ∙ rw (a, v) (end_back d s)
+
+pub one_answer : (r s : Result ⊤ Refusal) → answer_of r ≡ answer_of s → r ≡ s
+one_answer r s a = one_end tt r s a refl

@@ -10,10 +10,10 @@ use Rattle.meaning.specs.Kernel.{tap_reach, divisor}
 use Rattle.meaning.specs.Refusals.{Answer, ◌when◌, first_of, outside, plan_rows, plan_divisor, plan_reach}
 use Rattle.meaning.specs.Bounds.{AllowedPlan, AcceptedPlan}
 use Rattle.theory.specs.Stages.{reach_replicate}
-use Rattle.theory.specs.Refusals.{done_off, off_done, plan_numbered}
+use Rattle.theory.specs.Refusals.{done_off, off_done, number_zero, plan_numbered}
 use Rattle.theory.specs.Accepted.{plan_rows_lem, plan_allowed, plans_allowed, allowed_plan, stage_allowed, allowed_stages, divisor_allowed, accepted_divisor, accepted_reach, no_divisor, no_reach, divisor_accepted}
 use Rattle.plan.specs.declared.Plan.{Plan}
-use Rattle.plan.specs.Structs.{stage_of, stages_of, plain}
+use Rattle.plan.specs.Structs.{stage_of, stages_of}
 use Rattle.plan.specs.Capped.{capped, capped_below, capped_times_lem}
 
 pub record Tested (p : Plan) : Type 0 where
@@ -32,20 +32,17 @@ module _ (p : Plan) where
   pub tested_allowed : Tested p → AllowedPlan (stages_of p)
   tested_allowed t = record { passes = rw (length-replicate p.passes (stage_of p)) t.passes; stages = allowed_stages p.passes (record { radius = t.radius; inner = t.inner; edge = t.edge }) }
 
-  pub plan_tested : {n : ℕ} {passes inner : Bool} →
-      plain n ≡ first_of ((1 when passes) ∷ (2 when ltb max_radius p.radius) ∷ (3 when inner) ∷ (4 when leb p.inner p.edge) ∷ [])
-      → passes ≡ outside least max_passes p.passes → inner ≡ outside least max_inner p.inner → plain n ≡ first_of (plan_rows (stages_of p ∷ []))
-  plan_tested e k b = e ∙ rw (k, b) (sym (plan_rows_lem p.radius p.inner p.edge p.passes))
+  pub plan_tested : {a : Answer} {passes inner : Bool} → passes ≡ outside least max_passes p.passes → inner ≡ outside least max_inner p.inner
+      → a ≡ first_of ((1 when passes) ∷ (2 when ltb max_radius p.radius) ∷ (3 when inner) ∷ (4 when leb p.inner p.edge) ∷ [])
+      → a ≡ first_of (plan_rows (stages_of p ∷ []))
+  plan_tested k b e = e ∙ rw (k, b) (sym (plan_rows_lem p.radius p.inner p.edge p.passes))
 
-  module _ {n : ℕ} (e : plain n ≡ first_of (plan_rows (stages_of p ∷ []))) where
-    number : n ≡ (first_of (plan_rows (stages_of p ∷ []))).number
-    number = ap (λ (a : Answer). a.number) e
+  module _ {a : Answer} (e : a ≡ first_of (plan_rows (stages_of p ∷ []))) where
+    pub plan_passed : a.number ≡ 0 → Tested p
+    plan_passed z = allowed_tested (plan_allowed (stages_of p) (done_off _ (plan_numbered _) (number_zero e z)))
 
-    pub plan_passed : n ≡ 0 → Tested p
-    plan_passed z = allowed_tested (plan_allowed (stages_of p) (done_off _ (plan_numbered _) (sym number ∙ z)))
-
-    pub divisor_failed : (n ≡ 0 → ⊥) → 0 ≡ plan_divisor (stages_of p)
-    divisor_failed h = sym (no_divisor (stages_of p) (λ ok. h (number ∙ ap (λ (a : Answer). a.number) (off_done _ (allowed_plan (stages_of p) ok.plan)))))
+    pub divisor_failed : (a.number ≡ 0 → ⊥) → 0 ≡ plan_divisor (stages_of p)
+    divisor_failed h = sym (no_divisor (stages_of p) (λ ok. h (rw e (ap (λ (a : Answer). a.number) (off_done _ (allowed_plan (stages_of p) ok.plan))))))
 
   module _ (t : Tested p) (x : ℕ) (e : capped x ≡ capped (1 * divisor (stages_of p))) where
     one : capped x ≡ capped (divisor (stages_of p))
@@ -73,9 +70,9 @@ module _ (p : Plan) where
 
 -- ---- two plans
 module _ (p q : Plan) where
-  pub plans_passed : {n : ℕ} → plain n ≡ first_of (plan_rows (stages_of p ∷ stages_of q ∷ [])) → n ≡ 0 → Tested p × Tested q
+  pub plans_passed : {a : Answer} → a ≡ first_of (plan_rows (stages_of p ∷ stages_of q ∷ [])) → a.number ≡ 0 → Tested p × Tested q
   plans_passed e z =
-      let (a, b) = plans_allowed (stages_of p) (stages_of q) (done_off _ (plan_numbered _) (sym (ap (λ (a : Answer). a.number) e) ∙ z)) in
+      let (a, b) = plans_allowed (stages_of p) (stages_of q) (done_off _ (plan_numbered _) (number_zero e z)) in
       (allowed_tested p a, allowed_tested q b)
 
   pub plans_product : (M x y : ℕ) → Tested q → capped x ≡ capped (M * divisor (stages_of p)) → capped y ≡ capped (x * divisor (stages_of q)) → capped y ≡ capped (M * (divisor (stages_of p) * divisor (stages_of q)))

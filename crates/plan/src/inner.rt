@@ -1,14 +1,21 @@
-// The tests of a plan. A number answered is the first row that applies, 0 where none does.
+// The tests of a plan. A refusal is that of the first row that applies.
 ghost use Rattle.std.specs.Prelude.{◌≡◌, [], ◌∷◌, ◌+◌, ◌*◌, ◌≤◌};
 ghost use Rattle.meaning.specs.Limits.{least, max_passes, max_radius, max_inner, max_bound, max_result, max_length, max_side};
 ghost use Rattle.meaning.specs.Kernel.{tap_sum, tap_reach, divisor};
 ghost use Rattle.meaning.specs.Refusals as R;
 ghost use Rattle.meaning.specs.Refusals.{◌when◌};
-ghost use Rattle.plan.specs.Structs.{stage_of, stages_of, plain};
+ghost use Rattle.plan.specs.Structs.{stage_of, stages_of, refused, answer_of};
 ghost use Rattle.plan.specs.Tested.{Tested};
 ghost use Rattle.plan.specs.Capped.{capped};
 
-use crate::Plan;
+use crate::{Plan, Refusal};
+
+// A picture's columns and rows, once they are allowed.
+#[derive(Clone, Copy)]
+pub struct Sides {
+    pub width: usize,
+    pub height: usize,
+}
 
 // No code calls this: it is proved, so that each constant is the number of the definitions.
 fn limits_agree()
@@ -26,36 +33,27 @@ pub fn outside(low: u64, high: u64, x: u64) -> bool
     high < x
 }
 
-// The first of four rows, numbered from `number` on, whose test is true.
+// A row of the table of numbers: a refusal where it applies.
 #[tactic(auto, unfolding(meaning::specs::Refusals::first_of))]
-pub fn first_row(number: u64, a: bool, b: bool, c: bool, d: bool) -> u64
-    requires { number ≤ 5 }
-    ensures { plain result ≡ R.first_of ((number when a) ∷ (number + 1 when b) ∷ (number + 2 when c) ∷ (number + 3 when d) ∷ []) }
+pub fn row(applies: bool, refusal: Refusal) -> Result<(), Refusal>
+    ensures { answer_of result ≡ R.first_of (record { answer = refused refusal; applies = applies } ∷ []) }
 {
-    if a {
-        return number;
+    if applies {
+        return Err(refusal);
     }
-    if b {
-        return number + 1;
-    }
-    if c {
-        return number + 2;
-    }
-    if d {
-        return number + 3;
-    }
-    0
+    Ok(())
 }
 
 // Rows 1 to 4.
-pub fn plan_refusal(plan: Plan) -> u64
-    ensures { plain result ≡ R.first_of (R.plan_rows (stages_of plan ∷ [])) }
+pub fn allowed(plan: Plan) -> Result<(), Refusal>
+    ensures { answer_of result ≡ R.first_of (R.plan_rows (stages_of plan ∷ [])) }
 {
     let passes = outside(Plan::LEAST, Plan::MAX_PASSES, plan.passes);
-    let radius = Plan::MAX_RADIUS < plan.radius;
     let inner = outside(Plan::LEAST, Plan::MAX_INNER, plan.inner);
-    let edge = plan.inner <= plan.edge;
-    first_row(1, passes, radius, inner, edge)
+    row(passes, Refusal::Passes)?;
+    row(Plan::MAX_RADIUS < plan.radius, Refusal::Radius)?;
+    row(inner, Refusal::InnerWeight)?;
+    row(plan.inner <= plan.edge, Refusal::EdgeWeight)
 }
 
 // The sum of one pass's taps.
@@ -97,10 +95,8 @@ pub fn scaled(x: u64, plan: Plan) -> u64
     let d = tap_sum(plan);
     let passes = plan.passes;
     let mut product = x;
-    let mut k: u64 = 0;
-    while k < passes {
+    for k in 0..passes {
         product = capped_times(product, d);
-        k += 1;
     }
     product
 }

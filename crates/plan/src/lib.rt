@@ -1,9 +1,9 @@
-// A plan, its limits, and what calls answer.
+// A plan, its limits, and why a call is refused.
 #![tactic(auto)]
 
 ghost use Rattle.std.specs.Prelude.{◌≡◌};
 ghost use Rattle.meaning.specs.Refusals.{plan_divisor, plan_reach};
-ghost use Rattle.plan.specs.Structs.{stages_of};
+ghost use Rattle.plan.specs.Structs.{stages_of, refused};
 
 pub mod inner;
 
@@ -16,35 +16,86 @@ pub struct Plan {
     pub passes: u64,
 }
 
-// Number 0 is done. The position is 0 but at 12.
+// A picture: rows are smoothed by the plan across, columns by the plan down.
 #[derive(Clone, Copy)]
-pub struct Answer {
-    pub number: u64,
-    pub position: usize,
+pub struct Raster {
+    pub across: Plan,
+    pub down: Plan,
+    pub bound: u64,
+    pub width: u64,
+    pub height: u64,
 }
 
-// What a call answers that tests samples. Of those it tests, position is the first that is not acceptable, and bad how many are not: both are 0 but at 11.
-#[derive(Clone, Copy)]
-pub struct Checked {
-    pub number: u64,
-    pub position: usize,
-    pub bad: usize,
+// Why a call is refused: what is not allowed. Of what applies it is the one with the lowest number.
+#[derive(Clone, Copy, Debug, PartialEq, Eq)]
+pub enum Refusal {
+    Passes,
+    Radius,
+    InnerWeight,
+    EdgeWeight,
+    Bound,
+    // the bound times the divisor
+    Product,
+    // a length, width, height or cell count
+    Size,
+    // of a lent slice
+    Length,
+    Position,
+    // of an edit
+    NewValue,
+    // of the samples tested, the first that is not acceptable, and how many are not
+    BadSample { position: usize, bad: usize },
+    // the first result that has, or would get, too large a size
+    BadResult { position: usize },
+    Sigma,
+    Record,
+    Mode,
 }
 
-// What an edit answers. The count is of results changed, 0 when refused; bad is 1 at 11, else 0.
-#[derive(Clone, Copy)]
-pub struct Edited {
-    pub number: u64,
-    pub position: usize,
-    pub count: usize,
-    pub bad: usize,
-}
+impl Refusal {
+    // What hosts and programs tell. 15 is not in use.
+    pub fn number(self) -> u64
+        ensures { result ≡ (refused self).number }
+    {
+        match self {
+            Refusal::Passes => 1,
+            Refusal::Radius => 2,
+            Refusal::InnerWeight => 3,
+            Refusal::EdgeWeight => 4,
+            Refusal::Bound => 5,
+            Refusal::Product => 6,
+            Refusal::Size => 7,
+            Refusal::Length => 8,
+            Refusal::Position => 9,
+            Refusal::NewValue => 10,
+            Refusal::BadSample { .. } => 11,
+            Refusal::BadResult { .. } => 12,
+            Refusal::Sigma => 13,
+            Refusal::Record => 14,
+            Refusal::Mode => 21,
+        }
+    }
 
-// What a point answers: the smoothed value, or a refusal with its number, index, and how many samples within reach are bad.
-#[derive(Clone, Copy)]
-pub enum Point {
-    Value(f64),
-    Refused(u64, usize, usize),
+    // 0 of a refusal that is of no one place.
+    pub fn position(self) -> usize
+        ensures { result ≡ (refused self).position }
+    {
+        match self {
+            Refusal::BadSample { position, .. } => position,
+            Refusal::BadResult { position } => position,
+            _ => 0,
+        }
+    }
+
+    // 0 of a refusal that is not of samples.
+    pub fn bad(self) -> usize
+        ensures { result ≡ (refused self).bad }
+    {
+        match self {
+            Refusal::BadSample { bad, .. } => bad,
+            _ => 0,
+        }
+    }
 }
 
 impl Plan {
@@ -82,7 +133,7 @@ impl Plan {
     pub fn divisor(self) -> u64
         ensures { result ≡ plan_divisor (stages_of self) }
     {
-        if inner::plan_refusal(self) != 0 {
+        if inner::allowed(self).is_err() {
             return 0;
         }
         let product = inner::scaled(1, self);

@@ -19,10 +19,10 @@ pub loop-k-preserved : goal.loop-k-preserved
 loop-k-preserved c =
     let l = c.loop-k in
     let d = c.tap_sum-d.result in
-    (omega arith, capped_again l.product _ _ (rw c.tap_sum-d.ensures (tap_sum_positive _ c.requires.inner.0)) l.invariant.1 c.capped_times-product.ensures ∙ ap capped (sym (grow _ d l.k)))
+    capped_again l.product _ _ (rw c.tap_sum-d.ensures (tap_sum_positive _ c.requires.inner.0)) l.invariant c.capped_times-product.ensures ∙ ap capped (sym (grow _ d l.k))
 
 pub returns : goal.returns
 returns c =
     let p = c.args.plan in
     let all : c.loop-k.k ≡ p.passes = omega arith in
-    c.loop-k.invariant.1 ∙ rw (all, c.tap_sum-d.ensures, divisor_replicate p.passes (stage_of p))
+    c.loop-k.invariant ∙ rw (all, c.tap_sum-d.ensures, divisor_replicate p.passes (stage_of p))

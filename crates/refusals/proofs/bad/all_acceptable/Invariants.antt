@@ -6,7 +6,8 @@ use Rattle.refusals.specs.Acceptable.{Acceptable}
 use Rattle.refusals.proofs.bad.all_acceptable.Given as goal
 
 abbrev pub invariant-loop-i : goal.invariant-loop-i
-invariant-loop-i l = (l.start ≤ l.i) × (l.i - l.start ≤ l.end - l.start) × (l.acceptable ≡ true → Acceptable l.bound l.samples l.start l.i) × (Acceptable l.bound l.samples l.start l.i → l.acceptable ≡ true)
-
-abbrev pub decreases-loop-i : goal.decreases-loop-i
-decreases-loop-i l = l.end - l.i
+invariant-loop-i l = record {
+  behind : l.i - l.fn.span.start ≤ l.fn.span.end - l.fn.span.start;
+  yes : l.acceptable ≡ true → Acceptable l.bound l.samples l.fn.span.start l.i;
+  no : Acceptable l.bound l.samples l.fn.span.start l.i → l.acceptable ≡ true;
+}
