@@ -1,26 +1,36 @@
 // What a host is told: the number, and the rest through what it lends.
 ghost use Rattle.std.specs.Prelude.{◌≡◌};
-ghost use Rattle.plan.specs.Structs.{answer_of, checked_answer};
+ghost use Rattle.plan.specs.Structs.{answer_of};
 ghost use Rattle.theory.specs.Narrow.{Narrow};
 ghost use Rattle.answers.specs.Told.{said};
 
-use plan::{Answer, Checked};
+use plan::Refusal;
 
 // Of a call that tests no samples.
-pub fn told(answer: Answer, place: &mut u32) -> u32
-    requires { Narrow (answer_of answer) }
-    ensures { said result place.new 0 ≡ answer_of answer }
+pub fn told<T: Copy>(ended: Result<T, Refusal>, place: &mut u32) -> u32
+    requires narrow { Narrow (answer_of ended) }
+    requires none_bad { (answer_of ended).bad ≡ 0 }
+    ensures { said result place.new 0 ≡ answer_of ended }
 {
-    *place = answer.position as u32;
-    answer.number as u32
+    let mut none = 0;
+    checked(ended, place, &mut none)
 }
 
 // Of one that does.
-pub fn checked(tested: Checked, place: &mut u32, bad: &mut u32) -> u32
-    requires { Narrow (checked_answer tested) }
-    ensures { said result place.new bad.new ≡ checked_answer tested }
+pub fn checked<T: Copy>(ended: Result<T, Refusal>, place: &mut u32, bad: &mut u32) -> u32
+    requires { Narrow (answer_of ended) }
+    ensures { said result place.new bad.new ≡ answer_of ended }
 {
-    *place = tested.position as u32;
-    *bad = tested.bad as u32;
-    tested.number as u32
+    match ended {
+        Ok(_) => {
+            *place = 0;
+            *bad = 0;
+            0
+        }
+        Err(refusal) => {
+            *place = refusal.position() as u32;
+            *bad = refusal.bad() as u32;
+            refusal.number() as u32
+        }
+    }
 }

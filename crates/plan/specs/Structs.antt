@@ -11,6 +11,7 @@
 use Rattle.std.specs.Prelude.{ℕ, ◌<◌, ◌≡◌, refl, true, false, cond, eqb, List, Result, Ok, Err, is_err, IsErrAnd, ⊤}
 use Rattle.std.proofs.Common.{sym, ◌∙◌, eq-eqb, true≢false, arith}
 use Rattle.std.proofs.Math.Decide.{ℕ_discrete}
+use Rattle.std.specs.Result.{result_unwrap_or}
 use Rattle.std.proofs.lemmas.Result.{err_from_is_err_and}
 use Rattle.meaning.specs.Kernel.{Stage, plan}
 use Rattle.meaning.specs.Refusals as meant
@@ -67,8 +68,7 @@ refusal_of a =
     (cond (eqb a.number 14) Record Mode)))))))))))))
 
 abbrev pub value_or : {A : Type 0} → A → Result A Refusal → A
-value_or d (Ok x) = x
-value_or d (Err e) = d
+value_or d r = result_unwrap_or r d
 
 abbrev pub end_of : {A : Type 0} → A → meant.Answer → Result A Refusal
 end_of x a = cond (eqb a.number 0) (Ok x) (Err (refusal_of a))
