@@ -1,33 +1,43 @@
 -- Bytes put into a slice, one stretch behind the other.
+--   written c, rest c            what a cursor has written, and what stands behind that in its slice
+--   Wrote old xs new             a cursor goes on from old to new: it writes xs, and the rest of its slice stays
+--   Room c xs                    it has room for xs
 --   Appended old at xs new end   new is old up to at, then xs, and end is the place behind it; what stands from there on is not said
---   Room at xs s                 s has room for xs from at on
--- Laws: append_none, append_byte, append_then (one stretch behind the other), append_all (where nothing stands behind);
--- room_first, room_rest (of what is put as two stretches).
-use Rattle.std.specs.Prelude.{◌≡◌, List, [], ◌∷◌, ◌++◌, ℕ, ◌+◌, ◌≤◌, ◌<◌, length, take, set}
-use Rattle.std.proofs.Common.{sym, ◌∙◌, ap, append_assoc, append-nil, add-one, arith, length-append, take-suc-set, take_all}
+-- Laws: append_none, append_then (one stretch behind the other); room_first, room_rest (of what is put as two stretches).
+use Rattle.std.specs.Prelude.{◌≡◌, refl, List, [], ◌++◌, ℕ, ◌+◌, ◌≤◌, length, take, drop}
+use Rattle.std.proofs.Common.{sym, ◌∙◌, ap, append_assoc, append-nil, arith, length-append, length-drop, drop-drop}
+use Rattle.encoding.specs.declared.inner.cursor.Cursor.{Cursor}
+
+abbrev pub written : Cursor → List ℕ
+written c = take c.at c.out.now
+
+abbrev pub rest : Cursor → List ℕ
+rest c = drop c.at c.out.now
+
+pub record Wrote (old : Cursor) (xs : List ℕ) (new : Cursor) : Type 0 where
+  pub written : written new ≡ written old ++ xs
+  pub rest : rest new ≡ drop (length xs) (rest old)
+  pub slice : new.out.ghost_name ≡ old.out.ghost_name
+
+pub record Room (c : Cursor) (xs : List ℕ) : Type 0 where
+  pub room : length xs ≤ length (rest c)
 
 pub record Appended (old : List ℕ) (at : ℕ) (xs : List ℕ) (new : List ℕ) (end : ℕ) : Type 0 where
   pub behind : end ≡ at + length xs
   pub front : take end new ≡ take at old ++ xs
 
-pub record Room (at : ℕ) (xs : List ℕ) (s : List ℕ) : Type 0 where
-  pub room : at + length xs ≤ length s
+pub append_none : {c : Cursor} {xs : List ℕ} → xs ≡ [] → Wrote c xs c
+append_none {c} e = rw e (record { written = sym (append-nil (written c)); rest = refl; slice = refl })
 
-pub append_none : {s xs : List ℕ} {at : ℕ} → xs ≡ [] → Appended s at xs s at
-append_none {s} {xs} {at} e = rw e (record { behind = omega arith; front = sym (append-nil (take at s)) })
+pub append_then : {a b c : Cursor} {xs ys zs : List ℕ} → zs ≡ xs ++ ys → Wrote a xs b → Wrote b ys c → Wrote a zs c
+append_then {a} {b} {c} {xs} {ys} i p q = rw i (record {
+  written = q.written ∙ ap (λ l. l ++ ys) p.written ∙ append_assoc (written a) xs ys;
+  rest = q.rest ∙ ap (drop (length ys)) p.rest ∙ drop-drop (length ys) (length xs) (rest a) ∙ ap (λ n. drop n (rest a)) (sym (length-append xs ys));
+  slice = q.slice ∙ p.slice;
+})
 
-pub append_byte : (s : List ℕ) (at b : ℕ) → at < length s → Appended s at (b ∷ []) (set s at b) (at + 1)
-append_byte s at b h = record { behind = omega arith; front = rw add-one (take-suc-set s at b h) }
-
-pub append_then : {s t u xs ys zs : List ℕ} {at m e : ℕ} → zs ≡ xs ++ ys → Appended s at xs t m → Appended t m ys u e → Appended s at zs u e
-append_then {s} {t} {u} {xs} {ys} {zs} {at} {m} {e} i p q =
-    rw i (record { behind = omega (arith, p.behind, q.behind, length-append xs ys); front = q.front ∙ ap (λ (f : List ℕ). f ++ ys) p.front ∙ append_assoc (take at s) xs ys })
-
-pub append_all : {s t xs : List ℕ} {e : ℕ} → Appended s 0 xs t e → length t ≤ e → t ≡ xs
-append_all {s} {t} {xs} {e} p h = sym (take_all e t h) ∙ p.front
-
-pub room_first : (xs ys : List ℕ) {s zs : List ℕ} {at : ℕ} → zs ≡ xs ++ ys → Room at zs s → Room at xs s
+pub room_first : (xs ys : List ℕ) {zs : List ℕ} {c : Cursor} → zs ≡ xs ++ ys → Room c zs → Room c xs
 room_first xs ys i h = record { room = omega (arith, length-append xs ys, ap length i, h.room) }
 
-pub room_rest : (ys : List ℕ) {s t xs zs : List ℕ} {at m : ℕ} → zs ≡ xs ++ ys → Room at zs s → Appended s at xs t m → length t ≡ length s → Room m ys t
-room_rest ys {s} {t} {xs} i h p l = record { room = omega (arith, length-append xs ys, ap length i, p.behind, h.room) }
+pub room_rest : (ys : List ℕ) {a b : Cursor} {xs zs : List ℕ} → zs ≡ xs ++ ys → Room a zs → Wrote a xs b → Room b ys
+room_rest ys {a} {xs = xs} i h p = record { room = omega (arith, length-append xs ys, ap length i, h.room, ap length p.rest, length-drop (length xs) (rest a)) }

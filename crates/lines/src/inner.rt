@@ -1,49 +1,45 @@
-// What is put into a slice stands from `at` on; the place behind it is answered.
-ghost use Rattle.std.specs.Prelude.{[], ◌∷◌, ◌++◌, pos};
-ghost use Rattle.meaning.specs.Encoding.{decimal};
+// The program's lines.
+ghost use Rattle.std.specs.Prelude.{[], ◌∷◌, ◌++◌};
 ghost use Rattle.meaning.specs.Program.{first_line, result_lines};
-ghost use Rattle.encoding.specs.Append.{Appended, Room};
+ghost use Rattle.encoding.specs.Append.{Wrote, Room};
 
-use encoding::inner::put_byte;
-use text::inner;
+use encoding::inner::cursor::Cursor;
+use itoa::Integer;
 
 // Name and three numbers: number, divisor and sample count, or number, position and 0.
-pub fn first_line(out: &mut [u8], at: usize, number: u64, second: u64, third: u64) -> usize
-    requires { Room at (first_line number second third) out.old }
-    ensures { Appended out.old at (first_line number second third) out.new result }
+pub fn first_line(out: &mut Cursor, number: u64, second: u64, third: u64)
+    requires { Room out.old (first_line number second third) }
+    ensures { Wrote out.old (first_line number second third) out.new }
 {
-    let name = inner::put_text(out, at, b"smooth ");
-    let one = put_word(out, name, number, b' ');
-    let two = put_word(out, one, second, b' ');
-    put_word(out, two, third, b'\n')
+    out.put_bytes(b"smooth ");
+    put_word(out, number, b' ');
+    put_word(out, second, b' ');
+    put_word(out, third, b'\n');
 }
 
 // A line for each result, the first of index 0.
-pub fn result_lines(out: &mut [u8], at: usize, results: &[i64]) -> usize
-    requires { Room at (result_lines 0 results.now) out.old }
-    ensures { Appended out.old at (result_lines 0 results.now) out.new result }
+pub fn result_lines(out: &mut Cursor, results: &[i64])
+    requires { Room out.old (result_lines 0 results.now) }
+    ensures { Wrote out.old (result_lines 0 results.now) out.new }
 {
-    let mut end = at;
-    for i in 0..results.len() {
-        end = result_line(out, end, i, results[i]);
+    for (i, &res) in results.iter().enumerate() {
+        result_line(out, i, res);
     }
-    end
 }
 
-fn result_line(out: &mut [u8], at: usize, index: usize, res: i64) -> usize
-    requires { Room at (result_lines index (res ∷ [])) out.old }
-    ensures { Appended out.old at (result_lines index (res ∷ [])) out.new result }
+fn result_line(out: &mut Cursor, index: usize, res: i64)
+    requires { Room out.old (result_lines index (res ∷ [])) }
+    ensures { Wrote out.old (result_lines index (res ∷ [])) out.new }
 {
-    let word = put_word(out, at, index as u64, b' ');
-    let end = inner::put_whole(out, word, res);
-    put_byte(out, end, b'\n')
+    put_word(out, index, b' ');
+    put_word(out, res, b'\n');
 }
 
 // A number, and the byte that ends it.
-fn put_word(out: &mut [u8], at: usize, x: u64, last: u8) -> usize
-    requires { Room at (decimal (pos x) ++ last ∷ []) out.old }
-    ensures { Appended out.old at (decimal (pos x) ++ last ∷ []) out.new result }
+fn put_word<I: Integer>(out: &mut Cursor, n: I, last: u8)
+    requires { Room out.old (I.text n ++ last ∷ []) }
+    ensures { Wrote out.old (I.text n ++ last ∷ []) out.new }
 {
-    let end = inner::put_decimal(out, at, x);
-    put_byte(out, end, last)
+    text::inner::put_decimal(out, n);
+    out.put_byte(last);
 }

@@ -7,8 +7,7 @@ ghost use Rattle.meaning.specs.Record.{sample_at};
 pub fn load(stretch: &[u8], samples: &mut [i32])
     ensures { samples.new ≡ list_of (length samples.old) (sample_at stretch.now) }
 {
-    for i in 0..samples.len() {
-        let v = crate::sample(stretch, i);
-        samples[i] = v;
+    for (i, sample) in samples.iter_mut().enumerate() {
+        *sample = crate::sample(stretch, i);
     }
 }

@@ -1,22 +1,41 @@
 // What a job record holds.
 #![tactic(auto)]
 
-ghost use Rattle.std.specs.Prelude.{◌≡◌, min};
+ghost use Rattle.std.specs.Prelude.{◌≡◌};
 ghost use Rattle.meaning.specs.Limits.{max_samples};
 ghost use Rattle.meaning.specs.Record as M;
 
+use plan::Plan;
+
 pub mod inner;
 
-// What the reader answers: the numbers, and the stretch of the record that holds the samples, in bytes.
-// Number 0 is done. At 14 every number is 0 and the stretch is empty.
+// The numbers of a job, each of the width of its field.
 #[derive(Clone, Copy)]
-pub struct Job {
-    pub number: u64,
+pub struct Fields {
     pub radius: u16,
     pub inner: u8,
     pub edge: u8,
     pub passes: u8,
     pub bound: u32,
+}
+
+impl From<Fields> for Plan {
+    ghost from_gives = { λ f p. p ≡ record { radius = f.radius; inner = f.inner; edge = f.edge; passes = f.passes } };
+
+    fn from(fields: Fields) -> Plan {
+        Plan::new(
+            u64::from(fields.radius),
+            u64::from(fields.inner),
+            u64::from(fields.edge),
+            u64::from(fields.passes),
+        )
+    }
+}
+
+// What the reader answers: the numbers, and the stretch of the record that holds the samples, in bytes.
+#[derive(Clone, Copy)]
+pub struct Job {
+    pub fields: Fields,
     pub start: usize,
     pub size: usize,
 }
@@ -34,23 +53,17 @@ fn limit_agrees()
 pub fn stretch(bytes: &[u8], start: usize, size: usize) -> &[u8]
     ensures { result.now ≡ M.stretch start size bytes.now }
 {
-    let from = lesser(start, bytes.len());
-    let end = from + lesser(size, bytes.len() - from);
-    &bytes[from..end]
+    let rest = &bytes[start.min(bytes.len())..];
+    &rest[..size.min(rest.len())]
 }
 
 // Sample i of a stretch; 0 where it has none.
 pub fn sample(stretch: &[u8], i: usize) -> i32
     ensures { result ≡ M.sample_at stretch.now i }
 {
-    if i < stretch.len() / 4 {
-        return encoding::inner::signed(encoding::inner::number_at(stretch, 4 * i, 4) as u32);
+    let (samples, _) = stretch.as_chunks::<4>();
+    match samples.get(i) {
+        Some(&four) => encoding::inner::signed(four),
+        None => 0,
     }
-    0
-}
-
-fn lesser(a: usize, b: usize) -> usize
-    ensures { result ≡ min a b }
-{
-    if a < b { a } else { b }
 }

@@ -1,27 +1,29 @@
--- Four bytes as one number, and that as a signed one.
-use mathlib.Core.Path.{sym, ◌∙◌, ap}
-use Prim.Native.Nat.{◌*◌}
-use native.Mathlib.Omega.{arith}
-use mir.Syntax.{w32}
-use mir.Val.{to_z}
-use mir.Facts.{to_z-of_z}
-use Rattle.meaning.specs.Encoding.{Bytes}
-use Rattle.theory.specs.Encoding.{number_part}
-use Rattle.theory.specs.Records.{sample_at_in, sample_at_past}
+-- Four bytes as a signed number.
+use Rattle.std.proofs.Common.{◌≡◌, refl, sym, ◌∙◌, ap, ℕ, zero, suc, ◌+◌, ◌*◌, ◌<◌, List, [], take, drop, get_or, drop-drop, arith, to_z, to_z-of_z, length, ◌/◌}
+use Rattle.std.specs.Int.{w32}
+use Rattle.std.specs.Simd.{first_chunks}
 use borrow.Author.Rules.{sfits_of}
+use Rattle.meaning.specs.Encoding.{number}
+use Rattle.theory.specs.Records.{sample_at_in, sample_at_past}
 use Rattle.record.proofs.sample.Goals as goal
 
-pub overflow_cast-number_at : goal.overflow_cast-number_at
-overflow_cast-number_at c =
-    let bytes : Bytes c.args.stretch.now = record { byte = λ i. (c.shared_slice_known-1.given i).fits } in
-    record { fits = omega (arith, c.number_at.ensures, number_part 4 (4 * c.args.i) bytes) }
+chunk_at : (k i : ℕ) (s : List ℕ) → i < k → get_or (first_chunks 4 k s) i [] ≡ take 4 (drop (4 * i) s)
+chunk_at zero i s h = absurd (omega arith)
+chunk_at (suc k) zero s h = refl
+chunk_at (suc k) (suc i) s h =
+    let place : 4 * suc i ≡ 4 + 4 * i = omega arith in
+    rw (place, ← drop-drop (4 * i) 4 s) (chunk_at k i (drop 4 s) (omega arith))
 
-pub returns-then-i-stretch : goal.returns-then-i-stretch
-returns-then-i-stretch c =
-    let a = c.args in
-    to_z-of_z {w = w32} (sfits_of c.signed.type_inv) ∙ c.signed.ensures ∙ ap (to_z w32) c.number_at.ensures ∙ sym (sample_at_in a.stretch.now a.i c.if-i-stretch.true)
+pub returns-in-Some : goal.returns-in-Some
+returns-in-Some c =
+    let s = c.args.stretch.now in
+    let i = c.args.i in
+    let chunks = c.as_chunks.ensures in
+    let found = c.in-Some.ensures.lookup in
+    let within : i < length s / 4 = omega (arith, found.3.0, chunks.front_len) in
+    to_z-of_z {w = w32} (sfits_of c.signed.type_inv) ∙ c.signed.ensures
+    ∙ ap (λ l. to_z w32 (number l)) (found.3.1 [] ∙ ap (λ l. get_or l i []) chunks.front ∙ chunk_at _ i s within)
+    ∙ sym (sample_at_in s i within)
 
-pub returns : goal.returns
-returns c =
-    let a = c.args in
-    sym (sample_at_past a.stretch.now a.i (omega arith))
+pub returns-in-None : goal.returns-in-None
+returns-in-None c = sym (sample_at_past c.args.stretch.now c.args.i (omega (arith, c.in-None.ensures.lookup.3, c.as_chunks.ensures.front_len)))
