@@ -1,10 +1,11 @@
 -- The steps of a smoothing call, each over plain lists; its test and its ends are those of any shape.
--- Laws: test_refused, test_rest (the rows in two parts, as code tests them), series_lengths; ready (what an answer of 0 leaves), swapped;
+-- Laws: test_refused, test_rest (the rows in two parts, as code tests them), series_lengths; ready (what a test that refuses nothing leaves), swapped;
 -- passable (each pass has room), after_none, after_next; call_refused, call_done.
-use Rattle.std.specs.Prelude.{ℕ, suc, ◌*◌, ◌<◌, ◌≡◌, refl, Bool, false, ◌||◌, List, [], ◌∷◌, ◌++◌, length, ℤ, pos}
+use Rattle.std.specs.Prelude.{ℕ, suc, ◌*◌, ◌<◌, ◌≡◌, refl, Bool, false, ◌||◌, List, [], ◌∷◌, ◌++◌, length, ℤ, pos, Result, IsErrAnd, ⊤}
 use Rattle.std.proofs.Math.Path.{sym, ap}
 use Rattle.std.proofs.Common.{◌∙◌, le_trans, arith}
 use Rattle.std.proofs.Math.ListN.{replicate}
+use Rattle.std.proofs.lemmas.Result.{err_from_is_err_and}
 use Rattle.meaning.specs.Extension.{at, fold}
 use Rattle.meaning.specs.Kernel.{divisor}
 use Rattle.meaning.specs.Smoothing.{pass}
@@ -21,7 +22,8 @@ use Rattle.theory.specs.ShapeRows.{shape_refused, shape_rest}
 use Rattle.theory.specs.Tests.{no_differs}
 use Rattle.theory.specs.AcceptedSmoothings.{series_allowed}
 use Rattle.plan.specs.declared.Plan.{Plan}
-use Rattle.plan.specs.Structs.{stage_of, stages_of}
+use Rattle.plan.specs.declared.Refusal.{Refusal}
+use Rattle.plan.specs.Structs.{stage_of, stages_of, plain, refused, answer_of, refused_number}
 use Rattle.plan.specs.Tested.{allowed_tested}
 use Rattle.series.specs.Contract.{Gives}
 use Rattle.pass.specs.Ready.{Passable}
@@ -36,12 +38,12 @@ module _ (s : Shape) (M : ℕ) (f : List ℤ) (nr nw : ℕ) where
   unfolding smooth_rows
   rows_tested = rw (row_at_all 11 (length f) (λ i. above M (at f i)))
 
-  module _ {a : Answer} {wrong : Bool} (e : a ≡ first_of (common_rows s M wrong)) (w : s.bad_size ≡ false → wrong ≡ lengths) where
-    pub test_refused : (a.number ≡ 0 → ⊥) → a ≡ first_of (smooth_rows s M f nr nw)
-    test_refused h = rw rows_tested (shape_refused s M lengths 11 (length f) _ e w h)
+  module _ {wrong : Bool} (w : s.bad_size ≡ false → wrong ≡ lengths) where
+    pub test_refused : (x : Refusal) → refused x ≡ first_of (common_rows s M wrong) → refused x ≡ first_of (smooth_rows s M f nr nw)
+    test_refused x e = rw rows_tested (shape_refused s M lengths 11 (length f) _ e w (refused_number x))
 
-    pub test_rest : a.number ≡ 0 → {b : Answer} → b ≡ first_of (sample_row M f (within 0 (length f)) ∷ []) → b ≡ first_of (smooth_rows s M f nr nw)
-    test_rest z g = rw rows_tested (shape_rest s M lengths 11 (length f) _ e w z g)
+    pub test_rest : plain 0 ≡ first_of (common_rows s M wrong) → {b : Answer} → b ≡ first_of (sample_row M f (within 0 (length f)) ∷ []) → b ≡ first_of (smooth_rows s M f nr nw)
+    test_rest e g = rw rows_tested (shape_rest s M lengths 11 (length f) _ e w refl g)
 
 -- of a series, whose samples have the length asked
 pub series_lengths : (N nr nw : ℕ) {wrong : Bool} → wrong ≡ (differs nr N || differs nw N) → wrong ≡ (differs N N || differs nr N || differs nw N)
@@ -71,16 +73,18 @@ passable {p} {f} h {k} {src} l e s =
       room = le_trans (room_replicate h.bound (stage_of p) plan.inner.0 l) a.common.product;
     }
 
--- ---- what an answer of 0 leaves
-pub ready : (p : Plan) (M : ℕ) (f : List ℤ) (nr nw : ℕ) {a : Answer} → a ≡ first_of (smooth_rows (series_of (stages_of p) (length f)) M f nr nw) → a.number ≡ 0 → Ready p f nr nw
-ready p M f nr nw e z = record { bound = M; allowed = series_allowed (stages_of p) M f nr nw (number_zero e z) }
+-- ---- what a test that refuses nothing leaves
+pub ready : (p : Plan) (M : ℕ) (f : List ℤ) (nr nw : ℕ) → plain 0 ≡ first_of (smooth_rows (series_of (stages_of p) (length f)) M f nr nw) → Ready p f nr nw
+ready p M f nr nw e = record { bound = M; allowed = series_allowed (stages_of p) M f nr nw (number_zero e refl) }
 
--- ---- the two ends of a call whose test answered a, of any shape
-module _ (s : Shape) (M : ℕ) (new f r w : List ℤ) {a : Answer} (e : a ≡ first_of (smooth_rows s M f (length r) (length w))) where
-  pub call_refused : (a.number ≡ 0 → ⊥) → Gives (smoothed s M new f r w) a r w
+-- ---- the two ends of a call of any shape, by what its test answered
+module _ (s : Shape) (M : ℕ) (new f r w : List ℤ) where
+  pub call_refused : (x : Refusal) (q : Result ⊤ Refusal) → IsErrAnd q (λ y. y ≡ x) → refused x ≡ first_of (smooth_rows s M f (length r) (length w)) → Gives (smoothed s M new f r w) (answer_of q) r w
   unfolding smoothed
-  call_refused h = rw (← e) (record { answer = refl; results = sym (if_done_refused a _ r h); work = sym (if_done_refused a _ w h) })
+  call_refused x q h e =
+      let p = err_from_is_err_and q h in
+      rw (p.1, p.2, ← e) (record { answer = refl; results = sym (if_done_refused _ _ r (refused_number x)); work = sym (if_done_refused _ _ w (refused_number x)) })
 
-  pub call_done : {res wrk : List ℤ} {n : ℕ} → a.number ≡ 0 → res ≡ new → wrk ≡ replicate n (pos 0) → n ≡ length w → Gives (smoothed s M new f r w) a res wrk
+  pub call_done : plain 0 ≡ first_of (smooth_rows s M f (length r) (length w)) → {res wrk : List ℤ} {n : ℕ} → res ≡ new → wrk ≡ replicate n (pos 0) → n ≡ length w → Gives (smoothed s M new f r w) (plain 0) res wrk
   unfolding smoothed
-  call_done z s t n = rw (← e) (record { answer = refl; results = s ∙ sym (if_done_done a _ r z); work = t ∙ ap (λ k. replicate k (pos 0)) n ∙ sym (if_done_done a _ w z) })
+  call_done e s t n = rw (← e) (record { answer = refl; results = s ∙ sym (if_done_done _ _ r refl); work = t ∙ ap (λ k. replicate k (pos 0)) n ∙ sym (if_done_done _ _ w refl) })

@@ -3,10 +3,10 @@
 
 ghost use Rattle.meaning.specs.Extension.{fold};
 ghost use Rattle.meaning.specs.Calls.{smooth_series};
-ghost use Rattle.plan.specs.Structs.{stages_of, checked_answer};
+ghost use Rattle.plan.specs.Structs.{stages_of, answer_of};
 ghost use Rattle.series.specs.Contract.{Gives};
 
-use plan::{Checked, Plan};
+use plan::{Plan, Refusal};
 
 pub mod inner;
 mod testing;
@@ -18,14 +18,11 @@ pub fn smooth_series(
     samples: &[i32],
     results: &mut [i64],
     work: &mut [i64],
-) -> Checked
-    ensures { Gives (smooth_series fold (stages_of plan) bound samples.now results.old work.old) (checked_answer result) results.new work.new }
+) -> Result<(), Refusal>
+    ensures { Gives (smooth_series fold (stages_of plan) bound samples.now results.old work.old) (answer_of result) results.new work.new }
 {
-    let answer = testing::refusal(plan, bound, samples, results.len(), work.len());
-    if answer.number != 0 {
-        return answer;
-    }
+    testing::allowed(plan, bound, samples, results.len(), work.len())?;
     inner::smooth_into(plan, plan.passes, samples, results, work);
     pass::inner::clear(work);
-    answer
+    Ok(())
 }
