@@ -1,5 +1,6 @@
 -- The rows of a record's fields.
--- Laws: field_1 to field_5 (the row that applies), fields_hold (where none does), fields_fit (what that leaves).
+--   AreFields f p M   f has the numbers p of a plan, and the bound M
+-- Laws: field_1 to field_5 (the row that applies), fields_hold (where none does).
 use Rattle.std.specs.Prelude.{ℕ, ◌≤◌, ◌<◌, ◌≡◌}
 use Rattle.std.proofs.Math.Path.{sym}
 use Rattle.std.proofs.Common.{◌∙◌}
@@ -9,6 +10,7 @@ use Rattle.meaning.specs.Arguments.{PlanNumbers}
 use Rattle.meaning.specs.HostRecord.{field_rows}
 use Rattle.theory.specs.Refusals.{first_on, first_off, off_done, done_off, number_zero}
 use Rattle.plan.specs.Structs.{plain}
+use Rattle.record.specs.declared.Fields.{Fields}
 
 module _ (p : PlanNumbers) (M : ℕ) where
   pub field_1 : 256 ≤ p.passes → plain 1 ≡ first_of (field_rows p M)
@@ -39,7 +41,9 @@ module _ (p : PlanNumbers) (M : ℕ) where
           unfolding field_rows
           fields_hold h = sym (off_done (field_rows p M) (lt-leb _ _ k, (lt-leb _ _ r, (lt-leb _ _ b, (lt-leb _ _ a, (lt-leb _ _ h, tt))))))
 
-module _ (p : PlanNumbers) (M : ℕ) {n : ℕ} (e : plain n ≡ first_of (field_rows p M)) where
-  pub fields_fit : n ≡ 0 → (p.passes < 256) × (p.radius < 65536) × (p.inner < 256) × (p.edge < 256) × (M < 4294967296)
-  unfolding field_rows
-  fields_fit z = let h = done_off (field_rows p M) tt (number_zero e z) in (leb-false 256 _ h.0, leb-false 65536 _ h.1.0, leb-false 256 _ h.1.1.0, leb-false 256 _ h.1.1.1.0, leb-false 4294967296 _ h.1.1.1.1.0)
+pub record AreFields (f : Fields) (p : PlanNumbers) (M : ℕ) : Type 0 where
+  pub radius : f.radius ≡ p.radius
+  pub inner : f.inner ≡ p.inner
+  pub edge : f.edge ≡ p.edge
+  pub passes : f.passes ≡ p.passes
+  pub bound : f.bound ≡ M

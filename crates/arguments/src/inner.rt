@@ -1,12 +1,14 @@
 // A host's doubles as the numbers that calls take, and whether a record's fields hold them. What is no such number becomes one that no limit allows, so that the call itself refuses it.
-ghost use Rattle.std.specs.Prelude.{◌≡◌};
+ghost use Rattle.std.specs.Prelude.{◌≡◌, IfOk};
 ghost use Rattle.meaning.specs.Refusals.{first_of};
 ghost use Rattle.meaning.specs.Arguments.{whole_of, count_of, plan_in};
 ghost use Rattle.meaning.specs.HostRecord.{field_rows};
-ghost use Rattle.plan.specs.Structs.{plain};
+ghost use Rattle.plan.specs.Structs.{answer_of};
 ghost use Rattle.arguments.specs.Numbers.{numbers_of};
+ghost use Rattle.arguments.specs.Fields.{AreFields};
 
-use plan::Plan;
+use plan::{Plan, Refusal};
+use record::Fields;
 
 // Above every limit.
 const REFUSED: u64 = 9007199254740992;
@@ -46,24 +48,31 @@ pub fn plan(numbers: &[f64]) -> Plan
     Plan::new(radius, inner, edge, passes)
 }
 
-// Rows 1 to 5 of the writer: a number that its field cannot hold.
-pub fn field_refusal(plan: Plan, bound: u64) -> u32
-    ensures { plain result ≡ first_of (field_rows (numbers_of plan) bound) }
+// The numbers of a record, each of the width of its field. Rows 1 to 5 of the writer: a number that its field cannot hold.
+pub fn fields(plan: Plan, bound: u64) -> Result<Fields, Refusal>
+    ensures answer { answer_of result ≡ first_of (field_rows (numbers_of plan) bound) }
+    ensures same { IfOk result (λ f. AreFields f (numbers_of plan) bound) }
 {
-    if 256 <= plan.passes {
-        return 1;
-    }
-    if 65536 <= plan.radius {
-        return 2;
-    }
-    if 256 <= plan.inner {
-        return 3;
-    }
-    if 256 <= plan.edge {
-        return 4;
-    }
-    if 4294967296 <= bound {
-        return 5;
-    }
-    0
+    let Ok(passes) = u8::try_from(plan.passes) else {
+        return Err(Refusal::Passes);
+    };
+    let Ok(radius) = u16::try_from(plan.radius) else {
+        return Err(Refusal::Radius);
+    };
+    let Ok(inner) = u8::try_from(plan.inner) else {
+        return Err(Refusal::InnerWeight);
+    };
+    let Ok(edge) = u8::try_from(plan.edge) else {
+        return Err(Refusal::EdgeWeight);
+    };
+    let Ok(bound) = u32::try_from(bound) else {
+        return Err(Refusal::Bound);
+    };
+    Ok(Fields {
+        radius,
+        inner,
+        edge,
+        passes,
+        bound,
+    })
 }

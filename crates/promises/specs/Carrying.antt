@@ -17,7 +17,7 @@
 --   carried_size       and has size at most the bound
 --   carried_total      the divisor times the cells' sum, and the last carry, are the results' sum
 --   carried_series_true, carried_picture_true   where the results are a smoothing of some samples under the plan, or the plans, the last carry is 0 and the cells' sum is the samples'
-use Rattle.std.specs.Prelude.{ℕ, suc, ◌*◌, ◌≤◌, ◌<◌, ◌≡◌, ◌≢◌, List, [], length, ℤ, pos, nat_abs, ◌+ℤ◌, ◌-ℤ◌, ◌*ℤ◌}
+use Rattle.std.specs.Prelude.{ℕ, suc, ◌*◌, ◌≤◌, ◌<◌, ◌≡◌, ◌≢◌, List, [], length, ℤ, pos, nat_abs, ◌+ℤ◌, ◌-ℤ◌, ◌*ℤ◌, Result}
 use Rattle.std.proofs.Common.{sym, ap₂, ◌∙◌}
 use Rattle.std.proofs.Math.Path.{ap}
 use contract.Lifetimes.{Lfts}
@@ -40,9 +40,9 @@ use Rattle.theory.specs.OwnRows.{none_own}
 use Rattle.theory.specs.Totals.{total, total_list_of, results_total, picture_total}
 use Rattle.theory.specs.Carry.{carry_none, carry_below, carry_divided, carry_near, carry_size, carry_sum, carry_whole}
 use Rattle.plan.specs.declared.Plan.{Plan}
-use Rattle.plan.specs.Structs.{stages_of}
-use Rattle.carry.specs.declared.Carried as answered
-use Rattle.carry.specs.Structs.{answer_of}
+use Rattle.plan.specs.Structs.{stages_of, answer_of, one_end}
+use Rattle.plan.specs.declared.Refusal.{Refusal}
+use Rattle.carry.specs.Structs.{carry_of}
 use Rattle.carry.specs.Contract.{Gives}
 use Rattle.carry.proofs.carry_series.Reads as series-call
 use Rattle.carry.proofs.carry_series.Kinds as series-kinds
@@ -80,16 +80,16 @@ abbrev pub plan : SeriesCall → Plan
 plan c = c.given.0
 
 abbrev pub across : PictureCall → Plan
-across c = c.given.0
+across c = c.given.0.across
 
 abbrev pub down : PictureCall → Plan
-down c = c.given.1.0
+down c = c.given.0.down
 
 abbrev pub width : PictureCall → ℕ
-width c = c.given.1.1.1.0
+width c = c.given.0.width
 
 abbrev pub height : PictureCall → ℕ
-height c = c.given.1.1.1.1.0
+height c = c.given.0.height
 
 module _ (s : Shape) (M : ℕ) (r cells : List ℤ) {a : Answer} {k : ℕ} {left : List ℤ} (h : Gives (carried s M r cells) a k left) where
   pub carried_answers : a ≡ first_of (output_rows s M r (length cells))
@@ -111,19 +111,19 @@ of_series c =
     let s = series_of (stages_of (plan c)) (length r) in
     record {
       out = series_output [] none_own c.given.1.0 r cells (stages_of (plan c)) (first_alone _ (carried_answers s c.given.1.0 r cells c.learnt)) (carried_leaves s c.given.1.0 r cells c.learnt);
-      carry = c.answered.carry;
+      carry = carry_of c.answered;
       carries = carried_carries s c.given.1.0 r cells c.learnt;
     }
 
 abbrev pub of_picture : PictureCall → Carrying
 of_picture c =
-    let M = c.given.1.1.0 in
-    let r = c.given.1.1.1.1.1.0.now in
-    let cells = c.given.1.1.1.1.1.1.0.now in
+    let M = c.given.0.bound in
+    let r = c.given.1.0.now in
+    let cells = c.given.1.1.0.now in
     let s = picture_of (stages_of (across c)) (stages_of (down c)) (width c) (height c) in
     record {
       out = picture_output [] none_own M r cells (stages_of (across c)) (stages_of (down c)) (width c) (height c) (first_alone _ (carried_answers s M r cells c.learnt)) (carried_leaves s M r cells c.learnt);
-      carry = c.answered.carry;
+      carry = carry_of c.answered;
       carries = carried_carries s M r cells c.learnt;
     }
 
@@ -215,12 +215,9 @@ carried_smooth_picture s c e p t m w h r n =
     (done, k, x)
 
 -- ---- two calls
-abbrev back : Answer → ℕ → answered.Carried
-back a k = record { number = a.number; position = a.position; carry = k }
-
-carried_same : {o p : Carried} → o ≡ p → {a b : answered.Carried} {l m : List ℤ} → Gives o (answer_of a) a.carry l → Gives p (answer_of b) b.carry m → (a ≡ b) × (l ≡ m)
+carried_same : {o p : Carried} → o ≡ p → {a b : Result ℕ Refusal} {l m : List ℤ} → Gives o (answer_of a) (carry_of a) l → Gives p (answer_of b) (carry_of b) m → (a ≡ b) × (l ≡ m)
 carried_same e g h = (
-  ap₂ back (g.answer ∙ ap (λ (o : Carried). o.answer) e ∙ sym h.answer) (g.carry ∙ ap (λ (o : Carried). o.carry) e ∙ sym h.carry),
+  one_end 0 _ _ (g.answer ∙ ap (λ (o : Carried). o.answer) e ∙ sym h.answer) (g.carry ∙ ap (λ (o : Carried). o.carry) e ∙ sym h.carry),
   g.cells ∙ ap (λ (o : Carried). o.cells) e ∙ sym h.cells,
 )
 

@@ -33,7 +33,7 @@ use Rattle.theory.specs.Refusals.{number_lowest, number_none, if_done_done, if_d
 use Rattle.theory.specs.Fill.{get_d_map}
 use Rattle.theory.specs.Doubles.{whole_takes, taken_size, taken_same, back_taken, minus_zero}
 use Rattle.theory.specs.AcceptedDoubles as tested
-use Rattle.plan.specs.Structs.{checked_answer, as_checked}
+use Rattle.plan.specs.Structs.{answer_of, one_answer}
 use Rattle.samples.proofs.doubles_in.Reads as doubles-in
 use Rattle.samples.proofs.doubles_in.Kinds as kinds
 use Rattle.promises.specs.Smoothings.{Exactly}
@@ -56,10 +56,10 @@ abbrev pub samples : DoublesCall → List ℤ
 samples c = c.given.1.1.0.now
 
 abbrev pub number : DoublesCall → ℕ
-number c = c.answered.number
+number c = (answer_of c.answered).number
 
 abbrev pub place : DoublesCall → ℕ
-place c = c.answered.position
+place c = (answer_of c.answered).position
 
 abbrev pub samples_left : DoublesCall → List ℤ
 samples_left c = c.left.1.1.0.now
@@ -78,7 +78,7 @@ Allowed c = AllowedDoubles (bound c) (doubles c) (length (samples c))
 
 -- ---- one call
 module _ (c : DoublesCall) where
-  answer_is : checked_answer c.answered ≡ first_of (rows c)
+  answer_is : answer_of c.answered ≡ first_of (rows c)
   unfolding doubles_in
   answer_is = c.learnt.answer
 
@@ -100,7 +100,7 @@ module _ (c : DoublesCall) where
   pub doubles_in_place_other : number c ≢ 11 → place c ≡ 0
   doubles_in_place_other = tested.double_no_position _ _ _ answer_is
 
-  pub doubles_in_bad : Counted (λ i. WholeDouble (bound c) (double c i) → ⊥) (length (doubles c)) (rows c) (checked_answer c.answered)
+  pub doubles_in_bad : Counted (λ i. WholeDouble (bound c) (double c i) → ⊥) (length (doubles c)) (rows c) (answer_of c.answered)
   doubles_in_bad = tested.double_bad _ _ _ answer_is
 
   pub doubles_in_unchanged : number c ≢ 0 → samples_left c ≡ samples c
@@ -139,6 +139,6 @@ outcome_same m x f = rw (m, x, f)
 pub doubles_in_one : (c d : DoublesCall) → bound c ≡ bound d → doubles c ≡ doubles d → samples c ≡ samples d → (c.answered ≡ d.answered) × (samples_left c ≡ samples_left d)
 doubles_in_one c d m x f =
     let same = outcome_same m x f in (
-      ap as_checked (c.learnt.answer ∙ ap (λ (o : Converted ℤ). o.answer) same ∙ sym d.learnt.answer),
+      one_answer _ _ (c.learnt.answer ∙ ap (λ (o : Converted ℤ). o.answer) same ∙ sym d.learnt.answer),
       c.learnt.cells ∙ ap (λ (o : Converted ℤ). o.cells) same ∙ sym d.learnt.cells,
     )

@@ -49,22 +49,22 @@ abbrev pub plan : SeriesCall → Plan
 plan c = c.given.0
 
 abbrev pub across : PictureCall → Plan
-across c = c.given.0
+across c = c.given.0.across
 
 abbrev pub down : PictureCall → Plan
-down c = c.given.1.0
+down c = c.given.0.down
 
 abbrev pub width : PictureCall → ℕ
-width c = c.given.1.1.1.0
+width c = c.given.0.width
 
 abbrev pub height : PictureCall → ℕ
-height c = c.given.1.1.1.1.0
+height c = c.given.0.height
 
 abbrev pub of_series : SeriesCall → Output (each ratio)
 of_series c = converted_series [] none_own ratio c.given.1.0 c.given.1.1.0.now c.given.1.1.1.0.now (stages_of (plan c)) c.learnt
 
 abbrev pub of_picture : PictureCall → Output (each ratio)
-of_picture c = converted_picture [] none_own ratio c.given.1.1.0 c.given.1.1.1.1.1.0.now c.given.1.1.1.1.1.1.0.now (stages_of (across c)) (stages_of (down c)) (width c) (height c) c.learnt
+of_picture c = converted_picture [] none_own ratio c.given.0.bound c.given.1.0.now c.given.1.1.0.now (stages_of (across c)) (stages_of (down c)) (width c) (height c) c.learnt
 
 -- ---- its cells
 module _ (o : Output (each ratio)) (e : o.answer.number ≡ 0) {i : ℕ} (l : i < length o.results) where

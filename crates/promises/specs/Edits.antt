@@ -47,8 +47,8 @@ use Rattle.theory.specs.Stored as law
 use Rattle.theory.specs.Edits.{length_gained, gained_near, gained_far, gained_changed, gained_changes, changed_same, changed_all}
 use Rattle.theory.specs.Counts.{changed_none}
 use Rattle.plan.specs.declared.Plan.{Plan}
-use Rattle.plan.specs.declared.Edited.{Edited}
-use Rattle.plan.specs.Structs.{stages_of, edit_answer}
+use Rattle.plan.specs.declared.Refusal.{Refusal}
+use Rattle.plan.specs.Structs.{stages_of, answer_of}
 use Rattle.edit.specs.Contract.{Gives}
 use Rattle.edit.proofs.edit_series.Reads as edit-series
 use Rattle.edit.proofs.edit_series.Kinds as kinds
@@ -90,16 +90,16 @@ abbrev pub old : EditCall → ℤ
 old c = at (samples c) (position c)
 
 abbrev pub number : EditCall → ℕ
-number c = c.answered.number
+number c = (answer_of c.answered).number
 
 abbrev pub place : EditCall → ℕ
-place c = c.answered.position
+place c = (answer_of c.answered).position
 
 abbrev pub count : EditCall → ℕ
-count c = c.answered.count
+count c = count_of c.answered
 
 abbrev pub bad : EditCall → ℕ
-bad c = c.answered.bad
+bad c = (answer_of c.answered).bad
 
 abbrev pub samples_left : EditCall → List ℤ
 samples_left c = c.left.1.1.1.1.0.now
@@ -153,7 +153,7 @@ abbrev outcome : EditCall → outcomes.Edited
 outcome c = edit_series fold (stages c) (bound c) (position c) (value c) (samples c) (results c) (work c)
 
 module _ (c : EditCall) where
-  answer_is : edit_answer c.answered ≡ first_of (rows c)
+  answer_is : answer_of c.answered ≡ first_of (rows c)
   unfolding edit_series
   answer_is = c.learnt.answer
 
@@ -181,7 +181,7 @@ module _ (c : EditCall) where
   pub edit_place_other : number c ≢ 11 → number c ≢ 12 → place c ≡ 0
   edit_place_other = tested.edit_no_position _ _ _ _ _ _ _ _ answer_is
 
-  pub edit_bad : Counted (λ i. (i ≡ position c) × (bound c < nat_abs (at (samples c) i))) (length (samples c)) (rows c) (edit_answer c.answered)
+  pub edit_bad : Counted (λ i. (i ≡ position c) × (bound c < nat_abs (at (samples c) i))) (length (samples c)) (rows c) (answer_of c.answered)
   edit_bad = tested.edit_bad _ _ _ _ _ _ _ _ answer_is
 
   pub edit_bad_one : number c ≡ 11 → bad c ≡ 1
@@ -271,7 +271,4 @@ pub edit_one : (c d : EditCall) → plan c ≡ plan d → bound c ≡ bound d �
     → (c.answered ≡ d.answered) × (samples_left c ≡ samples_left d) × (results_left c ≡ results_left d) × (work_left c ≡ work_left d)
 edit_one c d p m i v f r w =
     let e = outcome_is c.learnt ∙ outcome_same p m i v f r w ∙ sym (outcome_is d.learnt) in
-    (ap answer e, ap (λ (o : outcomes.Edited). o.samples) e, ap (λ (o : outcomes.Edited). o.results) e, ap (λ (o : outcomes.Edited). o.work) e)
-  where
-    answer : outcomes.Edited → Edited
-    answer o = record { number = o.answer.number; position = o.answer.position; count = o.count; bad = o.answer.bad }
+    (one_end 0 _ _ (ap (λ (o : outcomes.Edited). o.answer) e) (ap (λ (o : outcomes.Edited). o.count) e), ap (λ (o : outcomes.Edited). o.samples) e, ap (λ (o : outcomes.Edited). o.results) e, ap (λ (o : outcomes.Edited). o.work) e)

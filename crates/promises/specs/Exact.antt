@@ -46,7 +46,7 @@ use Rattle.theory.specs.Tests.{outside_no, no_outside, differs_no, no_differs}
 use Rattle.theory.specs.Fill.{get_d_map}
 use Rattle.theory.specs.Values.{whole_exact}
 use Rattle.theory.specs.Doubles.{takes_whole, whole_takes, taken_size, taken_same, back_taken, minus_zero}
-use Rattle.plan.specs.Structs.{answer_of, as_answer, checked_answer, as_checked}
+use Rattle.plan.specs.Structs.{answer_of, one_answer}
 use Rattle.exact.proofs.results_to_doubles.Reads as results-to-doubles
 use Rattle.exact.proofs.results_to_doubles.Kinds as exact-kinds
 use Rattle.exact.proofs.doubles_to_results.Reads as doubles-to-results
@@ -179,32 +179,32 @@ module _ (c : ExactCall) where
   unfolding results_to_doubles
   exact_is = c.learnt.answer
 
-  exact_number : c.answered.number ≡ (first_of (exactly c)).number
+  exact_number : (answer_of c.answered).number ≡ (first_of (exactly c)).number
   exact_number = ap (λ (a : meant.Answer). a.number) exact_is
 
-  pub exact_lowest : (c.answered.number ≢ 0 → Applies c.answered.number (exactly c)) × ((n : ℕ) → Applies n (exactly c) → c.answered.number ≤ n)
+  pub exact_lowest : ((answer_of c.answered).number ≢ 0 → Applies (answer_of c.answered).number (exactly c)) × ((n : ℕ) → Applies n (exactly c) → (answer_of c.answered).number ≤ n)
   exact_lowest = number_lowest (exactly c) exact_number (exact_rising _ _)
 
-  pub exact_done : Exactly (c.answered.number ≡ 0) ((n : ℕ) → Applies n (exactly c) → ⊥)
+  pub exact_done : Exactly ((answer_of c.answered).number ≡ 0) ((n : ℕ) → Applies n (exactly c) → ⊥)
   exact_done = number_none (exactly c) exact_number (exact_numbered _ _)
 
-  pub exact_allowed : Exactly (c.answered.number ≡ 0) (AllowedExact (results c) (length (cells c)))
+  pub exact_allowed : Exactly ((answer_of c.answered).number ≡ 0) (AllowedExact (results c) (length (cells c)))
   exact_allowed = (λ e. held _ _ (sym exact_number ∙ e), λ ok. exact_number ∙ holds _ _ ok)
 
-  pub exact_place_12 : c.answered.number ≡ 12 → FirstAt (length (results c)) (λ i. max_result < nat_abs (result c i)) c.answered.position
+  pub exact_place_12 : (answer_of c.answered).number ≡ 12 → FirstAt (length (results c)) (λ i. max_result < nat_abs (result c i)) (answer_of c.answered).position
   unfolding exact_rows length_rows
   exact_place_12 h = first_map (λ i l k. ltb-true _ _ k) (λ i l k. lt-ltb _ _ k) (place_here 12 (length (results c)) (length_rows (length (results c)) (length (cells c))) tt (large (results c) (length (cells c))) (omega arith) exact_is h).first
 
-  pub exact_place_other : c.answered.number ≢ 12 → c.answered.position ≡ 0
+  pub exact_place_other : (answer_of c.answered).number ≢ 12 → (answer_of c.answered).position ≡ 0
   unfolding exact_rows length_rows
   exact_place_other h = (place_other 12 (length (results c)) (length_rows (length (results c)) (length (cells c))) tt (large (results c) (length (cells c))) (omega arith) exact_is h).1
 
-  pub exact_unchanged : c.answered.number ≢ 0 → cells_left c ≡ cells c
+  pub exact_unchanged : (answer_of c.answered).number ≢ 0 → cells_left c ≡ cells c
   unfolding results_to_doubles
   exact_unchanged n = c.learnt.cells ∙ if_done_refused _ _ _ (λ e. n (exact_number ∙ e))
 
   -- a call that is done
-  module _ (e : c.answered.number ≡ 0) where
+  module _ (e : (answer_of c.answered).number ≡ 0) where
     exact_whole : cells_left c ≡ map (of_int binary64) (results c)
     unfolding results_to_doubles
     exact_whole = c.learnt.cells ∙ if_done_done _ _ _ (sym exact_number ∙ e)
@@ -220,40 +220,40 @@ module _ (c : ExactCall) where
 
 -- ---- doubles as results
 module _ (d : BackCall) where
-  back_is : checked_answer d.answered ≡ first_of (backward d)
+  back_is : answer_of d.answered ≡ first_of (backward d)
   unfolding doubles_to_results
   back_is = d.learnt.answer
 
-  back_number : d.answered.number ≡ (first_of (backward d)).number
+  back_number : (answer_of d.answered).number ≡ (first_of (backward d)).number
   back_number = ap (λ (a : meant.Answer). a.number) back_is
 
-  pub back_lowest : (d.answered.number ≢ 0 → Applies d.answered.number (backward d)) × ((n : ℕ) → Applies n (backward d) → d.answered.number ≤ n)
+  pub back_lowest : ((answer_of d.answered).number ≢ 0 → Applies (answer_of d.answered).number (backward d)) × ((n : ℕ) → Applies n (backward d) → (answer_of d.answered).number ≤ n)
   back_lowest = number_lowest (backward d) back_number (back_rising _ _)
 
-  pub back_done : Exactly (d.answered.number ≡ 0) ((n : ℕ) → Applies n (backward d) → ⊥)
+  pub back_done : Exactly ((answer_of d.answered).number ≡ 0) ((n : ℕ) → Applies n (backward d) → ⊥)
   back_done = number_none (backward d) back_number (back_numbered _ _)
 
-  pub back_allowed : Exactly (d.answered.number ≡ 0) (AllowedBack (doubles d) (length (lent d)))
+  pub back_allowed : Exactly ((answer_of d.answered).number ≡ 0) (AllowedBack (doubles d) (length (lent d)))
   back_allowed = (λ e. taken _ _ (sym back_number ∙ e), λ ok. back_number ∙ takable _ _ ok)
 
-  pub back_place_11 : d.answered.number ≡ 11 → FirstAt (length (doubles d)) (λ i. WholeDouble max_result (double d i) → ⊥) d.answered.position
+  pub back_place_11 : (answer_of d.answered).number ≡ 11 → FirstAt (length (doubles d)) (λ i. WholeDouble max_result (double d i) → ⊥) (answer_of d.answered).position
   unfolding back_rows length_rows
   back_place_11 h = first_map (not_whole (doubles d) 0) (whole_not (doubles d) 0) (place_here 11 (length (doubles d)) (length_rows (length (doubles d)) (length (lent d))) tt (untaken (doubles d) 0) (omega arith) back_is h).first
 
-  pub back_place_other : d.answered.number ≢ 11 → d.answered.position ≡ 0
+  pub back_place_other : (answer_of d.answered).number ≢ 11 → (answer_of d.answered).position ≡ 0
   unfolding back_rows length_rows
   back_place_other h = (place_other 11 (length (doubles d)) (length_rows (length (doubles d)) (length (lent d))) tt (untaken (doubles d) 0) (omega arith) back_is h).1
 
-  pub back_bad : Counted (λ i. WholeDouble max_result (double d i) → ⊥) (length (doubles d)) (backward d) (checked_answer d.answered)
+  pub back_bad : Counted (λ i. WholeDouble max_result (double d i) → ⊥) (length (doubles d)) (backward d) (answer_of d.answered)
   unfolding back_rows length_rows
   back_bad = bad_counted (length_rows (length (doubles d)) (length (lent d))) [] tt (length (doubles d)) (untaken (doubles d) 0) (not_whole (doubles d) 0) (whole_not (doubles d) 0) back_is none_behind (back_rising (doubles d) (length (lent d))) (back_numbered (doubles d) (length (lent d)))
 
-  pub back_unchanged : d.answered.number ≢ 0 → results_left d ≡ lent d
+  pub back_unchanged : (answer_of d.answered).number ≢ 0 → results_left d ≡ lent d
   unfolding doubles_to_results
   back_unchanged n = d.learnt.cells ∙ if_done_refused _ _ _ (λ e. n (back_number ∙ e))
 
   -- a call that is done
-  module _ (e : d.answered.number ≡ 0) where
+  module _ (e : (answer_of d.answered).number ≡ 0) where
     back_whole : results_left d ≡ map (to_signed 63) (doubles d)
     unfolding doubles_to_results
     back_whole = d.learnt.cells ∙ if_done_done _ _ _ (sym back_number ∙ e)
@@ -283,14 +283,14 @@ back_same x r = rw (x, r)
 pub exact_one : (c d : ExactCall) → results c ≡ results d → cells c ≡ cells d → (c.answered ≡ d.answered) × (cells_left c ≡ cells_left d)
 exact_one c d r x =
     let same = exact_same r x in (
-      ap as_answer (c.learnt.answer ∙ ap (λ (o : Converted Float). o.answer) same ∙ sym d.learnt.answer),
+      one_answer _ _ (c.learnt.answer ∙ ap (λ (o : Converted Float). o.answer) same ∙ sym d.learnt.answer),
       c.learnt.cells ∙ ap (λ (o : Converted Float). o.cells) same ∙ sym d.learnt.cells,
     )
 
 pub back_one : (c d : BackCall) → doubles c ≡ doubles d → lent c ≡ lent d → (c.answered ≡ d.answered) × (results_left c ≡ results_left d)
 back_one c d x r =
     let same = back_same x r in (
-      ap as_checked (c.learnt.answer ∙ ap (λ (o : Converted ℤ). o.answer) same ∙ sym d.learnt.answer),
+      one_answer _ _ (c.learnt.answer ∙ ap (λ (o : Converted ℤ). o.answer) same ∙ sym d.learnt.answer),
       c.learnt.cells ∙ ap (λ (o : Converted ℤ). o.cells) same ∙ sym d.learnt.cells,
     )
 
@@ -300,7 +300,7 @@ there_and_back [] h = refl
 there_and_back (z ∷ r) h = ap₂ ◌∷◌ (back_taken max_result (le_refl max_result) 63 (omega arith) z (h 0 (omega arith))).1 (there_and_back r (λ i l. h (suc i) (omega arith)))
 
 module _ (c : ExactCall) (d : BackCall) where
-  pub exact_back : c.answered.number ≡ 0 → doubles d ≡ cells_left c → length (lent d) ≡ length (doubles d) → (d.answered.number ≡ 0) × (results_left d ≡ results c)
+  pub exact_back : (answer_of c.answered).number ≡ 0 → doubles d ≡ cells_left c → length (lent d) ≡ length (doubles d) → ((answer_of d.answered).number ≡ 0) × (results_left d ≡ results c)
   exact_back e x n =
       let ok = (exact_allowed c).0 e in
       let same = ap length x ∙ exact_length c e in
@@ -311,8 +311,8 @@ module _ (c : ExactCall) (d : BackCall) where
       }) in
       (done, back_whole d done ∙ ap (map (to_signed 63)) (x ∙ exact_whole c e) ∙ there_and_back (results c) ok.results)
 
-  pub back_exact : d.answered.number ≡ 0 → results c ≡ results_left d → length (cells c) ≡ length (results c)
-      → (c.answered.number ≡ 0) × (length (cells_left c) ≡ length (doubles d)) × ((i : ℕ) → i < length (doubles d) → eq (cell c i) (double d i) ≡ true)
+  pub back_exact : (answer_of d.answered).number ≡ 0 → results c ≡ results_left d → length (cells c) ≡ length (results c)
+      → ((answer_of c.answered).number ≡ 0) × (length (cells_left c) ≡ length (doubles d)) × ((i : ℕ) → i < length (doubles d) → eq (cell c i) (double d i) ≡ true)
   back_exact e r n =
       let ok = (back_allowed d).0 e in
       let same = ap length r ∙ back_length d e in

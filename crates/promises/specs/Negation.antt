@@ -16,7 +16,7 @@ use Rattle.meaning.specs.Calls.{smooth_rows}
 use Rattle.meaning.specs.Values.{nearest_even, rounded, output_rows, mode_rows}
 use Rattle.theory.specs.Negated.{results_negated, picture_negated, nearest_even_negated_each, smooth_negated, output_negated}
 use Rattle.plan.specs.declared.Plan.{Plan}
-use Rattle.plan.specs.Structs.{stages_of, as_answer, as_checked}
+use Rattle.plan.specs.Structs.{stages_of, answer_of, one_answer}
 use Rattle.plan.specs.declared.Checked.{Checked}
 use Rattle.promises.specs.Smoothings.{answers}
 use Rattle.promises.specs.Outputs.{Output, each, output_whole, series_smoothed, picture_smoothed}
@@ -41,19 +41,19 @@ series_shape : (r : List ℤ) {s : List ℤ} {p q : Plan} → p ≡ q → s ≡ 
 series_shape r p s = rw (p, s, length-map r neg_ℤ)
 
 pub whole_series_negated : (v w : WholeSeries) → v.mode ≡ 0 → w.mode ≡ 0 → w.plan ≡ v.plan → w.bound ≡ v.bound → w.results ≡ map neg_ℤ v.results → length w.cells ≡ length v.cells
-    → (w.answered ≡ v.answered) × (v.answered.number ≡ 0 → w.left ≡ map neg_ℤ v.left)
+    → (w.answered ≡ v.answered) × ((answer_of v.answered).number ≡ 0 → w.left ≡ map neg_ℤ v.left)
 whole_series_negated v w i j p m r n =
     let (a, c) = outputs_negated i j (of_series v) (of_series w) (series_shape v.results p r) m r n (ap mode_rows (j ∙ sym i)) in
-    (ap as_answer a, c)
+    (one_answer _ _ a, c)
 
 picture_shape : {p q t u : Plan} {W X H Y : ℕ} → p ≡ q → t ≡ u → W ≡ X → H ≡ Y → picture_of (stages_of p) (stages_of t) W H ≡ picture_of (stages_of q) (stages_of u) X Y
 picture_shape p t w h = rw (p, t, w, h)
 
 pub whole_picture_negated : (v w : WholePicture) → v.mode ≡ 0 → w.mode ≡ 0 → w.across ≡ v.across → w.down ≡ v.down → w.bound ≡ v.bound → w.width ≡ v.width → w.height ≡ v.height
-    → w.results ≡ map neg_ℤ v.results → length w.cells ≡ length v.cells → (w.answered ≡ v.answered) × (v.answered.number ≡ 0 → w.left ≡ map neg_ℤ v.left)
+    → w.results ≡ map neg_ℤ v.results → length w.cells ≡ length v.cells → (w.answered ≡ v.answered) × ((answer_of v.answered).number ≡ 0 → w.left ≡ map neg_ℤ v.left)
 whole_picture_negated v w i j p t m x y r n =
     let (a, c) = outputs_negated i j (of_picture v) (of_picture w) (picture_shape p t x y) m r n (ap mode_rows (j ∙ sym i)) in
-    (ap as_answer a, c)
+    (one_answer _ _ a, c)
 
 -- ---- smoothing
 smooth_rows_same : (f : List ℤ) {g : List ℤ} {S T : Shape} {M L nr nw mr mw : ℕ} → S ≡ T → M ≡ L → g ≡ map neg_ℤ f → nr ≡ mr → nw ≡ mw → first_of (smooth_rows S M g nr nw) ≡ first_of (smooth_rows T L f mr mw)
@@ -73,7 +73,7 @@ pub smooth_series_negated : {c d : series.SeriesCall} → NegatedSeries c d → 
 smooth_series_negated {c} {d} h =
     let f = series.samples c in
     let a = answers _ _ _ _ _ _ d.learnt ∙ smooth_rows_same f (series_shape f h.plan h.samples) h.bound h.samples h.results h.work ∙ sym (answers _ _ _ _ _ _ c.learnt) in
-    (ap as_checked a, λ e. series.done_whole d (ap (λ (x : Answer). x.number) a ∙ e) ∙ series_results f h.plan h.samples ∙ ap (map neg_ℤ) (sym (series.done_whole c e)))
+    (one_answer _ _ a, λ e. series.done_whole d (ap (λ (x : Answer). x.number) a ∙ e) ∙ series_results f h.plan h.samples ∙ ap (map neg_ℤ) (sym (series.done_whole c e)))
 
 picture_results : (f : List ℤ) {g : List ℤ} {p q t u : Plan} {W X H Y : ℕ} → p ≡ q → t ≡ u → W ≡ X → H ≡ Y → g ≡ map neg_ℤ f
     → picture fold fold (stages_of p) (stages_of t) W H g ≡ map neg_ℤ (picture fold fold (stages_of q) (stages_of u) X Y f)
@@ -93,7 +93,7 @@ pub smooth_picture_negated : {c d : pictures.PictureCall} → NegatedPicture c d
 smooth_picture_negated {c} {d} h =
     let f = pictures.samples c in
     let a = answers _ _ _ _ _ _ d.learnt ∙ smooth_rows_same f (picture_shape h.across h.down h.width h.height) h.bound h.samples h.results h.work ∙ sym (answers _ _ _ _ _ _ c.learnt) in
-    (ap as_checked a, λ e. pictures.picture_whole d (ap (λ (x : Answer). x.number) a ∙ e) ∙ picture_results f h.across h.down h.width h.height h.samples ∙ ap (map neg_ℤ) (sym (pictures.picture_whole c e)))
+    (one_answer _ _ a, λ e. pictures.picture_whole d (ap (λ (x : Answer). x.number) a ∙ e) ∙ picture_results f h.across h.down h.width h.height h.samples ∙ ap (map neg_ℤ) (sym (pictures.picture_whole c e)))
 
 -- ---- whole output behind a smoothing
 pub record EvenOfSeries (c : series.SeriesCall) (v : WholeSeries) : Type 0 where
@@ -103,10 +103,10 @@ pub record EvenOfSeries (c : series.SeriesCall) (v : WholeSeries) : Type 0 where
   pub results : v.results ≡ series.results_left c
   pub cells : length v.cells ≡ length v.results
 
-even_series_done : {c : series.SeriesCall} {v : WholeSeries} → EvenOfSeries c v → series.number c ≡ 0 → v.answered.number ≡ 0
+even_series_done : {c : series.SeriesCall} {v : WholeSeries} → EvenOfSeries c v → series.number c ≡ 0 → (answer_of v.answered).number ≡ 0
 even_series_done {c} {v} h e = (whole_series_allowed v).1 (series_smoothed h.plan h.bound (h.results ∙ series.done_whole c e) h.cells ((series.done_allowed c).0 e), rw h.mode (omega arith))
 
-pub samples_negated_series : {c d : series.SeriesCall} → NegatedSeries c d → series.number c ≡ 0 → {v w : WholeSeries} → EvenOfSeries c v → EvenOfSeries d w → (v.answered.number ≡ 0) × (w.answered.number ≡ 0) × (w.left ≡ map neg_ℤ v.left)
+pub samples_negated_series : {c d : series.SeriesCall} → NegatedSeries c d → series.number c ≡ 0 → {v w : WholeSeries} → EvenOfSeries c v → EvenOfSeries d w → ((answer_of v.answered).number ≡ 0) × ((answer_of w.answered).number ≡ 0) × (w.left ≡ map neg_ℤ v.left)
 samples_negated_series {c} {d} h e {v} {w} i j =
     let (a, r) = smooth_series_negated h in
     let vd = even_series_done i e in
@@ -115,7 +115,7 @@ samples_negated_series {c} {d} h e {v} {w} i j =
     (vd, wd, (whole_series_negated v w i.mode j.mode (j.plan ∙ h.plan ∙ sym i.plan) (j.bound ∙ h.bound ∙ sym i.bound) is (j.cells ∙ ap length is ∙ length-map v.results neg_ℤ ∙ sym i.cells)).1 vd)
 
 pub samples_negated_series_default : {c d : series.SeriesCall} → NegatedSeries c d → series.number c ≡ 0 → (v w : SeriesDefault) → EvenOfSeries c (series_by_default v) → EvenOfSeries d (series_by_default w)
-    → (v.answered.number ≡ 0) × (w.answered.number ≡ 0) × ((series_by_default w).left ≡ map neg_ℤ (series_by_default v).left)
+    → ((answer_of v.answered).number ≡ 0) × ((answer_of w.answered).number ≡ 0) × ((series_by_default w).left ≡ map neg_ℤ (series_by_default v).left)
 samples_negated_series_default h e v w i j = samples_negated_series h e i j
 
 pub record EvenOfPicture (c : pictures.PictureCall) (v : WholePicture) : Type 0 where
@@ -128,10 +128,10 @@ pub record EvenOfPicture (c : pictures.PictureCall) (v : WholePicture) : Type 0 
   pub results : v.results ≡ pictures.results_left c
   pub cells : length v.cells ≡ length v.results
 
-even_picture_done : {c : pictures.PictureCall} {v : WholePicture} → EvenOfPicture c v → pictures.number c ≡ 0 → v.answered.number ≡ 0
+even_picture_done : {c : pictures.PictureCall} {v : WholePicture} → EvenOfPicture c v → pictures.number c ≡ 0 → (answer_of v.answered).number ≡ 0
 even_picture_done {c} {v} h e = (whole_picture_allowed v).1 (picture_smoothed h.across h.down h.bound h.width h.height (h.results ∙ pictures.picture_whole c e) h.cells ((pictures.picture_allowed c).0 e), rw h.mode (omega arith))
 
-pub samples_negated_picture : {c d : pictures.PictureCall} → NegatedPicture c d → pictures.number c ≡ 0 → {v w : WholePicture} → EvenOfPicture c v → EvenOfPicture d w → (v.answered.number ≡ 0) × (w.answered.number ≡ 0) × (w.left ≡ map neg_ℤ v.left)
+pub samples_negated_picture : {c d : pictures.PictureCall} → NegatedPicture c d → pictures.number c ≡ 0 → {v w : WholePicture} → EvenOfPicture c v → EvenOfPicture d w → ((answer_of v.answered).number ≡ 0) × ((answer_of w.answered).number ≡ 0) × (w.left ≡ map neg_ℤ v.left)
 samples_negated_picture {c} {d} h e {v} {w} i j =
     let (a, r) = smooth_picture_negated h in
     let vd = even_picture_done i e in
@@ -140,5 +140,5 @@ samples_negated_picture {c} {d} h e {v} {w} i j =
     (vd, wd, (whole_picture_negated v w i.mode j.mode (j.across ∙ h.across ∙ sym i.across) (j.down ∙ h.down ∙ sym i.down) (j.bound ∙ h.bound ∙ sym i.bound) (j.width ∙ h.width ∙ sym i.width) (j.height ∙ h.height ∙ sym i.height) is (j.cells ∙ ap length is ∙ length-map v.results neg_ℤ ∙ sym i.cells)).1 vd)
 
 pub samples_negated_picture_default : {c d : pictures.PictureCall} → NegatedPicture c d → pictures.number c ≡ 0 → (v w : PictureDefault) → EvenOfPicture c (picture_by_default v) → EvenOfPicture d (picture_by_default w)
-    → (v.answered.number ≡ 0) × (w.answered.number ≡ 0) × ((picture_by_default w).left ≡ map neg_ℤ (picture_by_default v).left)
+    → ((answer_of v.answered).number ≡ 0) × ((answer_of w.answered).number ≡ 0) × ((picture_by_default w).left ≡ map neg_ℤ (picture_by_default v).left)
 samples_negated_picture_default h e v w i j = samples_negated_picture h e i j

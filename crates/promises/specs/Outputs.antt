@@ -16,7 +16,7 @@
 --   series_smoothed, picture_smoothed   what a smoothing that is done leaves has these bounds
 --   series_inputs, picture_inputs   the definitions give the same outcome of the same inputs
 --   output_same      so two outcomes are the same
-use Rattle.std.specs.Prelude.{ℕ, ◌*◌, ◌≤◌, ◌<◌, ◌≡◌, ◌≢◌, List, [], ◌++◌, map, length, get_or, ℤ, pos, nat_abs}
+use Rattle.std.specs.Prelude.{ℕ, ◌*◌, ◌≤◌, ◌<◌, ◌≡◌, ◌≢◌, List, [], ◌++◌, map, length, get_or, ℤ, pos, nat_abs, Result, ⊤}
 use Rattle.std.proofs.Common.{sym, ◌∙◌, mul-le-mul_right, arith}
 use Rattle.std.proofs.Math.Path.{ap}
 use Rattle.std.proofs.lemmas.List.{length-map}
@@ -34,9 +34,9 @@ use Rattle.theory.specs.AcceptedOutputs as tested
 use Rattle.theory.specs.Passes.{length_results}
 use Rattle.theory.specs.Picture.{length_picture}
 use Rattle.theory.specs.OwnRows.{Behind, own_rising, own_numbered, own_position, own_no_position, own_done, own_rest}
-use Rattle.plan.specs.declared.Answer as answered
 use Rattle.plan.specs.declared.Plan.{Plan}
-use Rattle.plan.specs.Structs.{stages_of, answer_of, as_answer}
+use Rattle.plan.specs.declared.Refusal.{Refusal}
+use Rattle.plan.specs.Structs.{stages_of, answer_of, one_answer}
 use Rattle.plan.specs.Contract.{Gives}
 use Rattle.promises.specs.Smoothings.{Exactly}
 
@@ -164,8 +164,8 @@ module _ {A : Type 0} {own more : List Row} {f g : ℤ → ℕ → A} (o : own �
       → converted own f (picture_of (stages_of p) (stages_of t) W H) M r x ≡ converted more g (picture_of (stages_of q) (stages_of u) X Y) L s y
   picture_inputs p t m w h r x = rw (o, e, p, t, m, w, h, r, x)
 
-pub output_same : {A : Type 0} {o p : Converted A} → o ≡ p → {a b : answered.Answer} {l m : List A} → Gives o (answer_of a) l → Gives p (answer_of b) m → (a ≡ b) × (l ≡ m)
+pub output_same : {A : Type 0} {o p : Converted A} → o ≡ p → {a b : Result ⊤ Refusal} {l m : List A} → Gives o (answer_of a) l → Gives p (answer_of b) m → (a ≡ b) × (l ≡ m)
 output_same {A} e g h = (
-  ap as_answer (g.answer ∙ ap (λ (o : Converted A). o.answer) e ∙ sym h.answer),
+  one_answer _ _ (g.answer ∙ ap (λ (o : Converted A). o.answer) e ∙ sym h.answer),
   g.cells ∙ ap (λ (o : Converted A). o.cells) e ∙ sym h.cells,
 )

@@ -48,7 +48,7 @@ use Rattle.theory.specs.Sizes.{results_size}
 use Rattle.theory.specs.Picture.{length_picture, cell_picture, rows_first, columns_first, across_size, picture_size}
 use Rattle.theory.specs.AcceptedSmoothings as tested
 use Rattle.plan.specs.declared.Plan.{Plan}
-use Rattle.plan.specs.Structs.{stages_of, checked_answer}
+use Rattle.plan.specs.Structs.{stages_of, answer_of}
 use Rattle.picture.proofs.smooth_picture.Reads as smooth-picture
 use Rattle.picture.proofs.smooth_picture.Kinds as kinds
 use Rattle.promises.specs.Smoothings as smooth
@@ -63,10 +63,10 @@ pub record PictureCall : Type 1 where
 
 -- ---- what was given, answered and left
 abbrev pub across : PictureCall → Plan
-across c = c.given.0
+across c = c.given.0.across
 
 abbrev pub down : PictureCall → Plan
-down c = c.given.1.0
+down c = c.given.0.down
 
 abbrev pub stages_across : PictureCall → List Stage
 stages_across c = stages_of (across c)
@@ -75,34 +75,34 @@ abbrev pub stages_down : PictureCall → List Stage
 stages_down c = stages_of (down c)
 
 abbrev pub bound : PictureCall → ℕ
-bound c = c.given.1.1.0
+bound c = c.given.0.bound
 
 abbrev pub width : PictureCall → ℕ
-width c = c.given.1.1.1.0
+width c = c.given.0.width
 
 abbrev pub height : PictureCall → ℕ
-height c = c.given.1.1.1.1.0
+height c = c.given.0.height
 
 abbrev pub samples : PictureCall → List ℤ
-samples c = c.given.1.1.1.1.1.0.now
+samples c = c.given.1.0.now
 
 abbrev pub results : PictureCall → List ℤ
-results c = c.given.1.1.1.1.1.1.0.now
+results c = c.given.1.1.0.now
 
 abbrev pub work : PictureCall → List ℤ
-work c = c.given.1.1.1.1.1.1.1.0.now
+work c = c.given.1.1.1.0.now
 
 abbrev pub number : PictureCall → ℕ
-number c = c.answered.number
+number c = (answer_of c.answered).number
 
 abbrev pub place : PictureCall → ℕ
-place c = c.answered.position
+place c = (answer_of c.answered).position
 
 abbrev pub results_left : PictureCall → List ℤ
-results_left c = c.left.1.1.1.1.1.1.0.now
+results_left c = c.left.1.1.0.now
 
 abbrev pub work_left : PictureCall → List ℤ
-work_left c = c.left.1.1.1.1.1.1.1.0.now
+work_left c = c.left.1.1.1.0.now
 
 abbrev pub rows : PictureCall → List Row
 rows c = smooth_rows (picture_of (stages_across c) (stages_down c) (width c) (height c)) (bound c) (samples c) (length (results c)) (length (work c))
@@ -138,7 +138,7 @@ module _ (c : PictureCall) where
   pub picture_place_other : number c ≢ 11 → place c ≡ 0
   picture_place_other = smooth.place_other _ _ _ _ _ _ c.learnt
 
-  pub picture_bad : Counted (λ i. bound c < nat_abs (at (samples c) i)) (length (samples c)) (rows c) (checked_answer c.answered)
+  pub picture_bad : Counted (λ i. bound c < nat_abs (at (samples c) i)) (length (samples c)) (rows c) (answer_of c.answered)
   picture_bad = smooth.counted _ _ _ _ _ _ c.learnt
 
   pub picture_unchanged : number c ≢ 0 → (results_left c ≡ results c) × (work_left c ≡ work c)

@@ -20,7 +20,7 @@
 --   planner_survey     with the survey's value at the original radius for edge weight, before it is rounded, the variance is just that of the sigma given: the moment over the divisor is s²/10,000
 --   planner_plan       the plan answered is allowed
 --   planner_one        two outcomes that the contract allows are the same
-use Rattle.std.specs.Prelude.{ℕ, ◌+◌, ◌*◌, ◌≤◌, ◌<◌, ◌≡◌, ◌≢◌, List, replicate, ℤ, pos, ◌*ℤ◌}
+use Rattle.std.specs.Prelude.{ℕ, ◌+◌, ◌*◌, ◌≤◌, ◌<◌, ◌≡◌, ◌≢◌, refl, Result, Ok, Err, List, replicate, ℤ, pos, ◌*ℤ◌}
 use Rattle.std.proofs.Math.Path.{sym, ap}
 use Rattle.std.proofs.Common.{◌∙◌}
 use contract.Lifetimes.{Lfts}
@@ -37,6 +37,8 @@ use Rattle.theory.specs.Refusals.{number_lowest, number_none, if_done_done, if_d
 use Rattle.theory.specs.SameTaps.{kernel_same, divisor_same}
 use Rattle.theory.specs.Survey.{surveyed, survey_exact}
 use Rattle.theory.specs.Planner as rule
+use Rattle.plan.specs.declared.Refusal.{Refusal}
+use Rattle.plan.specs.Structs.{end_of, end_back}
 use Rattle.planner.specs.declared.Planned.{Planned}
 use Rattle.planner.specs.Structs.{planned_of}
 use Rattle.planner.proofs.plan_for.Reads as plan-for
@@ -61,13 +63,13 @@ abbrev pub inner : PlannerCall → ℕ
 inner c = c.given.1.1.0
 
 abbrev pub number : PlannerCall → ℕ
-number c = c.answered.number
+number c = (planned_of c.answered).answer.number
 
 abbrev pub radius : PlannerCall → ℕ
-radius c = c.answered.radius
+radius c = (planned_of c.answered).radius
 
 abbrev pub edge : PlannerCall → ℕ
-edge c = c.answered.edge
+edge c = (planned_of c.answered).edge
 
 abbrev pub rows : PlannerCall → List Row
 rows c = planner_rows (sigma c) (passes c) (inner c)
@@ -176,11 +178,15 @@ module _ (c : PlannerCall) where
     planner_plan = rw stage_is (rule.planned_allowed (sigma c) (passes c) (inner c) ok)
 
 -- ---- two calls
-abbrev back : outcomes.Planned → Planned
-back p = record { number = p.answer.number; radius = p.radius; edge = p.edge }
+abbrev back : outcomes.Planned → Result Planned Refusal
+back p = end_of (record { radius = p.radius; edge = p.edge }) p.answer
+
+planned_back : (r : Result Planned Refusal) → back (planned_of r) ≡ r
+planned_back (Ok p) = refl
+planned_back (Err e) = end_back (record { radius = 0; edge = 0 }) (Err e)
 
 outcome_same : {s t K L b d : ℕ} → s ≡ t → K ≡ L → b ≡ d → plan_for s K b ≡ plan_for t L d
 outcome_same s k b = rw (s, k, b)
 
 pub planner_one : (c d : PlannerCall) → sigma c ≡ sigma d → passes c ≡ passes d → inner c ≡ inner d → c.answered ≡ d.answered
-planner_one c d s k b = ap back (c.learnt ∙ outcome_same s k b ∙ sym d.learnt)
+planner_one c d s k b = sym (planned_back c.answered) ∙ ap back (c.learnt ∙ outcome_same s k b ∙ sym d.learnt) ∙ planned_back d.answered

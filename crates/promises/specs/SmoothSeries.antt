@@ -35,7 +35,7 @@ use Rattle.theory.specs.Stages.{divisor_plan}
 use Rattle.theory.specs.Passes.{length_results, at_results}
 use Rattle.theory.specs.AcceptedSmoothings as tested
 use Rattle.plan.specs.declared.Plan.{Plan}
-use Rattle.plan.specs.Structs.{stages_of, checked_answer}
+use Rattle.plan.specs.Structs.{stages_of, answer_of}
 use Rattle.series.proofs.smooth_series.Reads as smooth-series
 use Rattle.series.proofs.smooth_series.Kinds as kinds
 use Rattle.promises.specs.Smoothings as smooth
@@ -68,10 +68,10 @@ abbrev pub work : SeriesCall → List ℤ
 work c = c.given.1.1.1.1.0.now
 
 abbrev pub number : SeriesCall → ℕ
-number c = c.answered.number
+number c = (answer_of c.answered).number
 
 abbrev pub place : SeriesCall → ℕ
-place c = c.answered.position
+place c = (answer_of c.answered).position
 
 abbrev pub results_left : SeriesCall → List ℤ
 results_left c = c.left.1.1.1.0.now
@@ -105,7 +105,7 @@ module _ (c : SeriesCall) where
   pub position_other : number c ≢ 11 → place c ≡ 0
   position_other = smooth.place_other _ _ _ _ _ _ c.learnt
 
-  pub bad_counted : Counted (λ i. bound c < nat_abs (at (samples c) i)) (length (samples c)) (rows c) (checked_answer c.answered)
+  pub bad_counted : Counted (λ i. bound c < nat_abs (at (samples c) i)) (length (samples c)) (rows c) (answer_of c.answered)
   bad_counted = smooth.counted _ _ _ _ _ _ c.learnt
 
   pub refused_unchanged : number c ≢ 0 → (results_left c ≡ results c) × (work_left c ≡ work c)

@@ -9,7 +9,7 @@
 --   whole, left      one that is done leaves the results of the outcome, and zeros in work
 --   number_done      the number is 0 where that of the rows is, and done_number the other way
 --   same             two outcomes are the same
-use Rattle.std.specs.Prelude.{ℕ, ◌≤◌, ◌<◌, ◌≡◌, ◌≢◌, List, length, ℤ, nat_abs}
+use Rattle.std.specs.Prelude.{ℕ, ◌≤◌, ◌<◌, ◌≡◌, ◌≢◌, List, length, ℤ, nat_abs, Result, ⊤}
 use Rattle.std.proofs.Common.{sym, ap, ◌∙◌}
 use Rattle.meaning.specs.Extension.{at}
 use Rattle.meaning.specs.Refusals.{Answer, Row, first_of, Applies, Shape, zeros}
@@ -17,8 +17,8 @@ use Rattle.meaning.specs.Calls.{Smoothed, smooth_rows, smoothed}
 use Rattle.meaning.specs.Bounds.{FirstAt, Counted}
 use Rattle.theory.specs.Refusals.{number_lowest, number_none, if_done_done, if_done_refused}
 use Rattle.theory.specs.AcceptedSmoothings.{smooth_rising, smooth_numbered, smooth_position, smooth_no_position, smooth_bad}
-use Rattle.plan.specs.declared.Checked.{Checked}
-use Rattle.plan.specs.Structs.{checked_answer, as_checked}
+use Rattle.plan.specs.declared.Refusal.{Refusal}
+use Rattle.plan.specs.Structs.{answer_of, one_answer}
 use Rattle.series.specs.Contract.{Gives}
 
 abbrev pub Exactly : Type 0 → Type 0 → Type 0
@@ -69,9 +69,9 @@ module _ (s : Shape) (M : ℕ) (new f r w : List ℤ) {a : Answer} {rl wl : List
   left e = h.work ∙ if_done_done _ _ _ (done_number e)
 
 -- ---- two calls
-pub same : {o p : Smoothed} → o ≡ p → {a b : Checked} {r s w x : List ℤ} → Gives o (checked_answer a) r w → Gives p (checked_answer b) s x → (a ≡ b) × (r ≡ s) × (w ≡ x)
+pub same : {o p : Smoothed} → o ≡ p → {a b : Result ⊤ Refusal} {r s w x : List ℤ} → Gives o (answer_of a) r w → Gives p (answer_of b) s x → (a ≡ b) × (r ≡ s) × (w ≡ x)
 same e g h = (
-  ap as_checked (g.answer ∙ ap (λ (o : Smoothed). o.answer) e ∙ sym h.answer),
+  one_answer _ _ (g.answer ∙ ap (λ (o : Smoothed). o.answer) e ∙ sym h.answer),
   g.results ∙ ap (λ (o : Smoothed). o.results) e ∙ sym h.results,
   g.work ∙ ap (λ (o : Smoothed). o.work) e ∙ sym h.work,
 )

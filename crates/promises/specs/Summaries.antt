@@ -12,7 +12,7 @@
 --   summary_series_lem, summary_picture_lem   the number is 0 exactly where the bounds of a series hold, and of a picture
 --   summary_series_allowed, summary_picture_allowed   so a call is done exactly where they hold
 --   summary_series_one, summary_picture_one   two outcomes that the contract allows are the same
-use Rattle.std.specs.Prelude.{ℕ, ◌*◌, ◌≤◌, ◌<◌, ◌≡◌, ◌≢◌, List, length, ℤ, nat_abs, ◌≤ℤ◌}
+use Rattle.std.specs.Prelude.{ℕ, ◌*◌, ◌≤◌, ◌<◌, ◌≡◌, ◌≢◌, List, length, ℤ, nat_abs, ◌≤ℤ◌, refl, Result, Ok, Err}
 use Rattle.std.proofs.Common.{sym, ◌∙◌, subst}
 use Rattle.std.proofs.Math.Path.{ap}
 use contract.Lifetimes.{Lfts}
@@ -28,7 +28,8 @@ use Rattle.theory.specs.Refusals.{number_lowest, number_none, if_done_done, if_d
 use Rattle.theory.specs.Extremes as extremes
 use Rattle.theory.specs.AcceptedOutputs as tested
 use Rattle.plan.specs.declared.Plan.{Plan}
-use Rattle.plan.specs.Structs.{stages_of}
+use Rattle.plan.specs.declared.Refusal.{Refusal}
+use Rattle.plan.specs.Structs.{stages_of, end_of, end_back}
 use Rattle.summary.specs.declared.Summary.{Summary}
 use Rattle.summary.specs.Structs.{summary_of}
 use Rattle.summary.proofs.summary_series.Reads as series-call
@@ -64,16 +65,16 @@ abbrev pub plan : SeriesCall → Plan
 plan c = c.given.0
 
 abbrev pub across : PictureCall → Plan
-across c = c.given.0
+across c = c.given.0.across
 
 abbrev pub down : PictureCall → Plan
-down c = c.given.1.0
+down c = c.given.0.down
 
 abbrev pub width : PictureCall → ℕ
-width c = c.given.1.1.1.0
+width c = c.given.0.width
 
 abbrev pub height : PictureCall → ℕ
-height c = c.given.1.1.1.1.0
+height c = c.given.0.height
 
 -- ---- its bounds
 module _ (s : Shape) (M : ℕ) (r : List ℤ) {x : meant.Summary} (e : x ≡ summary s M r) where
@@ -104,8 +105,8 @@ of_series c = record {
 abbrev pub of_picture : PictureCall → Summing
 of_picture c = record {
   shape = picture_of (stages_of (across c)) (stages_of (down c)) (width c) (height c);
-  bound = c.given.1.1.0;
-  results = c.given.1.1.1.1.1.0.now;
+  bound = c.given.0.bound;
+  results = c.given.1.0.now;
   answered = summary_of c.answered;
   is = c.learnt;
   some = λ z. tested.picture_out_some _ _ _ _ _ _ _ ((summary_picture_lem (stages_of (across c)) (stages_of (down c)) _ (width c) (height c) _ c.learnt).0 z);
@@ -185,17 +186,21 @@ module _ (s : Summing) where
     summary_highest = subst (λ (n : ℕ). FirstAt (length r) (λ i. (j : ℕ) → j < length r → at r j ≤ℤ at r i) n × (s.answered.highest ≡ ratio (at r n) s.shape.divisor)) (sym highest_at_lem) (extremes.highest_place r (s.some e), highest_is)
 
 -- ---- two calls
-abbrev back : meant.Summary → Summary
-back s = record { number = s.answer.number; position = s.answer.position; lowest = s.lowest; highest = s.highest; lowest_at = s.lowest_at; highest_at = s.highest_at }
+abbrev back : meant.Summary → Result Summary Refusal
+back s = end_of (record { lowest = s.lowest; highest = s.highest; lowest_at = s.lowest_at; highest_at = s.highest_at }) s.answer
+
+summary_back : (r : Result Summary Refusal) → back (summary_of r) ≡ r
+summary_back (Ok s) = refl
+summary_back (Err e) = end_back (record { lowest = plus_zero; highest = plus_zero; lowest_at = 0; highest_at = 0 }) (Err e)
 
 series_same : {p q : Plan} {M L : ℕ} {r s : List ℤ} → p ≡ q → M ≡ L → r ≡ s → summary_series (stages_of p) M r ≡ summary_series (stages_of q) L s
 series_same p m r = rw (p, m, r)
 
 pub summary_series_one : (c d : SeriesCall) → plan c ≡ plan d → (of_series c).bound ≡ (of_series d).bound → (of_series c).results ≡ (of_series d).results → c.answered ≡ d.answered
-summary_series_one c d p m r = ap back (c.learnt ∙ series_same p m r ∙ sym d.learnt)
+summary_series_one c d p m r = sym (summary_back c.answered) ∙ ap back (c.learnt ∙ series_same p m r ∙ sym d.learnt) ∙ summary_back d.answered
 
 picture_same : {p q t u : Plan} {M L W X H Y : ℕ} {r s : List ℤ} → p ≡ q → t ≡ u → M ≡ L → W ≡ X → H ≡ Y → r ≡ s → summary_picture (stages_of p) (stages_of t) M W H r ≡ summary_picture (stages_of q) (stages_of u) L X Y s
 picture_same p t m w h r = rw (p, t, m, w, h, r)
 
 pub summary_picture_one : (c d : PictureCall) → across c ≡ across d → down c ≡ down d → (of_picture c).bound ≡ (of_picture d).bound → width c ≡ width d → height c ≡ height d → (of_picture c).results ≡ (of_picture d).results → c.answered ≡ d.answered
-summary_picture_one c d p q m w h r = ap back (c.learnt ∙ picture_same p q m w h r ∙ sym d.learnt)
+summary_picture_one c d p q m w h r = sym (summary_back c.answered) ∙ ap back (c.learnt ∙ picture_same p q m w h r ∙ sym d.learnt) ∙ summary_back d.answered

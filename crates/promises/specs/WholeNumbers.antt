@@ -13,7 +13,7 @@
 --   SameSeries v w, SamePicture v w   the two were given the same
 --   whole_series_by_one, whole_picture_by_one   then two outcomes that the contract of a call in a mode allows are the same;  whole_series_one, whole_picture_one  so are two of a call without
 --   whole_series_default, whole_picture_default   and one without a mode is that of mode 0
-use Rattle.std.specs.Prelude.{ℕ, ◌≤◌, ◌<◌, ◌≡◌, refl, ◌≢◌, List, [], length, ℤ, pos, nat_abs, ◌-ℤ◌, ◌*ℤ◌, ◌≤ℤ◌}
+use Rattle.std.specs.Prelude.{ℕ, ◌≤◌, ◌<◌, ◌≡◌, refl, ◌≢◌, List, [], length, ℤ, pos, nat_abs, ◌-ℤ◌, ◌*ℤ◌, ◌≤ℤ◌, Result, ⊤}
 use Rattle.std.proofs.Common.{sym, ap, ◌∙◌, subst}
 use contract.Lifetimes.{Lfts}
 use denote.Triple.Clauses.{AtExit}
@@ -29,8 +29,8 @@ use Rattle.theory.specs.Rounded.{rounded_nearest, rounded_size, nearest_even_hal
 use Rattle.theory.specs.ModeRow.{mode_own, mode_off, off_mode, mode_refused, refused_mode}
 use Rattle.theory.specs.Refusals.{Off}
 use Rattle.theory.specs.AcceptedOutputs.{series_out_allowed, allowed_series_out, picture_out_allowed, allowed_picture_out}
-use Rattle.plan.specs.declared.Answer.{Answer}
 use Rattle.plan.specs.declared.Plan.{Plan}
+use Rattle.plan.specs.declared.Refusal.{Refusal}
 use Rattle.plan.specs.Structs.{stages_of, answer_of}
 use Rattle.plan.specs.Contract.{Gives}
 use Rattle.whole.proofs.whole_series_by.Reads as series-call
@@ -80,7 +80,7 @@ pub record WholeSeries : Type 0 where
   pub mode : ℕ
   pub results : List ℤ
   pub cells : List ℤ
-  pub answered : Answer
+  pub answered : Result ⊤ Refusal
   pub left : List ℤ
   pub gives : Gives (whole_series_by (stages_of plan) bound mode results cells) (answer_of answered) left
 
@@ -93,7 +93,7 @@ pub record WholePicture : Type 0 where
   pub mode : ℕ
   pub results : List ℤ
   pub cells : List ℤ
-  pub answered : Answer
+  pub answered : Result ⊤ Refusal
   pub left : List ℤ
   pub gives : Gives (whole_picture_by (stages_of across) (stages_of down) bound width height mode results cells) (answer_of answered) left
 
@@ -123,31 +123,31 @@ series_by_default c = record {
 
 abbrev pub picture_in_mode : PictureCall → WholePicture
 picture_in_mode c = record {
-  across = c.given.0;
-  down = c.given.1.0;
-  bound = c.given.1.1.0;
-  width = c.given.1.1.1.0;
-  height = c.given.1.1.1.1.0;
-  mode = c.given.1.1.1.1.1.0;
-  results = c.given.1.1.1.1.1.1.0.now;
-  cells = c.given.1.1.1.1.1.1.1.0.now;
+  across = c.given.0.across;
+  down = c.given.0.down;
+  bound = c.given.0.bound;
+  width = c.given.0.width;
+  height = c.given.0.height;
+  mode = c.given.1.0;
+  results = c.given.1.1.0.now;
+  cells = c.given.1.1.1.0.now;
   answered = c.answered;
-  left = c.left.1.1.1.1.1.1.1.0.now;
+  left = c.left.1.1.1.0.now;
   gives = c.learnt;
 }
 
 abbrev pub picture_by_default : PictureDefault → WholePicture
 picture_by_default c = record {
-  across = c.given.0;
-  down = c.given.1.0;
-  bound = c.given.1.1.0;
-  width = c.given.1.1.1.0;
-  height = c.given.1.1.1.1.0;
+  across = c.given.0.across;
+  down = c.given.0.down;
+  bound = c.given.0.bound;
+  width = c.given.0.width;
+  height = c.given.0.height;
   mode = 0;
-  results = c.given.1.1.1.1.1.0.now;
-  cells = c.given.1.1.1.1.1.1.0.now;
+  results = c.given.1.0.now;
+  cells = c.given.1.1.0.now;
   answered = c.answered;
-  left = c.left.1.1.1.1.1.1.0.now;
+  left = c.left.1.1.0.now;
   gives = c.learnt;
 }
 
@@ -192,19 +192,19 @@ module _ (mode : ℕ) (o : Output (each (rounded mode))) (e : o.answer.number �
 allowed_mode : (mode : ℕ) {A B : Type 0} → Exactly A (B × Off (mode_rows mode)) → Exactly A (B × (mode ≤ max_mode))
 allowed_mode mode h = (λ a. let (b, o) = h.0 a in (b, mode_off mode o), λ b. h.1 (b.0, off_mode mode b.1))
 
-pub whole_series_allowed : (w : WholeSeries) → Exactly (w.answered.number ≡ 0) (AllowedSeriesOut (stages_of w.plan) w.bound w.results (length w.cells) × (w.mode ≤ max_mode))
+pub whole_series_allowed : (w : WholeSeries) → Exactly ((answer_of w.answered).number ≡ 0) (AllowedSeriesOut (stages_of w.plan) w.bound w.results (length w.cells) × (w.mode ≤ max_mode))
 whole_series_allowed w = allowed_mode w.mode (output_series _ _ _ _ (mode_own w.mode) (stages_of w.plan) (of_series w).answers)
 
-pub whole_picture_allowed : (w : WholePicture) → Exactly (w.answered.number ≡ 0) (AllowedPictureOut (stages_of w.across) (stages_of w.down) w.bound w.width w.height w.results (length w.cells) × (w.mode ≤ max_mode))
+pub whole_picture_allowed : (w : WholePicture) → Exactly ((answer_of w.answered).number ≡ 0) (AllowedPictureOut (stages_of w.across) (stages_of w.down) w.bound w.width w.height w.results (length w.cells) × (w.mode ≤ max_mode))
 whole_picture_allowed w = allowed_mode w.mode (output_picture _ _ _ _ (mode_own w.mode) (stages_of w.across) (stages_of w.down) w.width w.height (of_picture w).answers)
 
-pub whole_series_21 : (w : WholeSeries) → Exactly (w.answered.number ≡ 21) (AllowedSeriesOut (stages_of w.plan) w.bound w.results (length w.cells) × (max_mode < w.mode))
+pub whole_series_21 : (w : WholeSeries) → Exactly ((answer_of w.answered).number ≡ 21) (AllowedSeriesOut (stages_of w.plan) w.bound w.results (length w.cells) × (max_mode < w.mode))
 whole_series_21 w = (
   λ e. let (z, l) = mode_refused _ _ _ _ w.mode (of_series w).answers e in (series_out_allowed _ _ _ _ z, l),
   λ ok. refused_mode _ _ _ _ w.mode (of_series w).answers (ap (λ (x : meant.Answer). x.number) (allowed_series_out _ _ _ _ ok.0)) ok.1,
 )
 
-pub whole_picture_21 : (w : WholePicture) → Exactly (w.answered.number ≡ 21) (AllowedPictureOut (stages_of w.across) (stages_of w.down) w.bound w.width w.height w.results (length w.cells) × (max_mode < w.mode))
+pub whole_picture_21 : (w : WholePicture) → Exactly ((answer_of w.answered).number ≡ 21) (AllowedPictureOut (stages_of w.across) (stages_of w.down) w.bound w.width w.height w.results (length w.cells) × (max_mode < w.mode))
 whole_picture_21 w = (
   λ e. let (z, l) = mode_refused _ _ _ _ w.mode (of_picture w).answers e in (picture_out_allowed _ _ _ _ _ _ _ z, l),
   λ ok. refused_mode _ _ _ _ w.mode (of_picture w).answers (ap (λ (x : meant.Answer). x.number) (allowed_picture_out _ _ _ _ _ _ _ ok.0)) ok.1,
