@@ -24,9 +24,10 @@ pub fn periods_before(i: usize, len: usize) -> Periods
     if i < period {
         return Periods { whole: 0, rest: i };
     }
-    let whole = i / period;
-    let rest = i - whole * period;
-    Periods { whole, rest }
+    Periods {
+        whole: i / period,
+        rest: i % period,
+    }
 }
 
 // The next place; behind the last the walk begins again.
@@ -52,7 +53,9 @@ pub fn reflect(place: usize, len: usize) -> usize
     }
 }
 
-// ---- what is read: samples where any are lent, else cells. A loop asks once which, and is compiled twice.
+// ---- what is read: samples where any are lent, else cells
+
+// How many that are.
 pub fn source_len(samples: &[i32], cells: &[i64]) -> usize
     ensures { result ≡ length (source samples.now cells.now) }
 {
@@ -62,6 +65,7 @@ pub fn source_len(samples: &[i32], cells: &[i64]) -> usize
     cells.len()
 }
 
+// The number at i of them.
 pub fn source_at(samples: &[i32], cells: &[i64], i: usize) -> i64
     requires { i < length (source samples.now cells.now) }
     ensures { result ≡ at (source samples.now cells.now) i }
