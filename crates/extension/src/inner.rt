@@ -24,9 +24,10 @@ pub fn periods_before(i: usize, len: usize) -> Periods
     if i < period {
         return Periods { whole: 0, rest: i };
     }
-    let whole = i / period;
-    let rest = i - whole * period;
-    Periods { whole, rest }
+    Periods {
+        whole: i / period,
+        rest: i % period,
+    }
 }
 
 // The next place; behind the last the walk begins again.
@@ -40,10 +41,12 @@ pub fn next(place: usize, len: usize) -> usize
 }
 
 // Which of len cells stands at a place.
+#[tactic(auto, using(theory::specs::HalfSample::fold_small, theory::specs::HalfSample::reflect_low, theory::specs::HalfSample::reflect_high))]
 pub fn reflect(place: usize, len: usize) -> usize
     requires place_bound { place < 2 * len }
     requires len_bound { 2 * len < 2 ^ 64 }
-    ensures { result ≡ fold len (pos place) }
+    ensures value { result ≡ fold len (pos place) }
+    ensures bound { result < len }
 {
     if place < len {
         place
@@ -52,27 +55,35 @@ pub fn reflect(place: usize, len: usize) -> usize
     }
 }
 
-// ---- what is read: samples where any are lent, else cells. A loop asks once which, and is compiled twice.
+// ---- what is read: samples where any are lent, else cells
+
+// How many that are.
+#[tactic(auto, using(crate::specs::Source::source_samples, crate::specs::Source::source_cells))]
 pub fn source_len(samples: &[i32], cells: &[i64]) -> usize
     ensures { result ≡ length (source samples.now cells.now) }
 {
-    if samples.len() > 0 {
-        return samples.len();
+    if samples.is_empty() {
+        cells.len()
+    } else {
+        samples.len()
     }
-    cells.len()
 }
 
+// The number at i of them.
+#[tactic(auto, using(crate::specs::Source::source_samples, crate::specs::Source::source_cells))]
 pub fn source_at(samples: &[i32], cells: &[i64], i: usize) -> i64
     requires { i < length (source samples.now cells.now) }
     ensures { result ≡ at (source samples.now cells.now) i }
 {
-    if samples.len() > 0 {
-        return samples[i] as i64;
+    if samples.is_empty() {
+        cells[i]
+    } else {
+        i64::from(samples[i])
     }
-    cells[i]
 }
 
 // What stands at a place.
+#[tactic(auto, unfolding(meaning::specs::Extension::ext))]
 pub fn read(src: &[i64], place: usize) -> i64
     requires { place < 2 * length src.now }
     ensures { result ≡ ext fold src.now (pos place) }

@@ -19,7 +19,7 @@ use Rattle.theory.specs.Sizes.{ext_size}
 use Rattle.theory.specs.Slide.{window, window_grow, window_slide, window_size, pass_at_window, Step, step_size}
 use Rattle.plan.specs.declared.Plan.{Plan}
 use Rattle.plan.specs.Structs.{stage_of}
-use Rattle.pass.specs.Ready.{Summable, Passable}
+use Rattle.pass.specs.Ready.{Summable, Passable, CellFits, SlideFits}
 
 pub record Windowed (r : ℕ) (e : ℤ → ℤ) : Type 0 where
   pub largest : ℕ
@@ -98,14 +98,18 @@ module _ {s : Stage} {e : ℤ → ℤ} {n : ℕ} {b a w lo first hi : ℤ} (t : 
       (ap (λ z. z -ℤ e (pos n -ℤ pos s.radius)) (sym (window_slide e s.radius (pos n))) ∙ +ℤ-neg_ℤ_cancel _ _)
 
   module _ (h : Roomy s e) where
-    pub cell_fits : SFits w64 (b *ℤ w) × (SFits w64 (lo +ℤ hi) × (SFits w64 (a *ℤ (lo +ℤ hi)) × SFits w64 (b *ℤ w +ℤ a *ℤ (lo +ℤ hi))))
+    pub cell_fits : CellFits b a w lo hi
     cell_fits =
         let step = room_step h in
-        rw (weighed_is, t.inner, t.edge, t.sum, t.low, t.enters)
-        (room_fits (step.weighed _), (room_fits (step.pair _ _), (room_fits (step.edges _ _), room_fits (step.written _))))
+        record {
+          within = rw (t.inner, t.sum) (room_fits (step.weighed _));
+          pair = rw (t.low, t.enters) (room_fits (step.pair _ _));
+          beside = rw (t.edge, t.low, t.enters) (room_fits (step.edges _ _));
+          cell = rw weighed_is (room_fits (step.written _));
+        }
 
-    pub slide_fits : SFits w64 (w +ℤ hi) × SFits w64 (w +ℤ hi -ℤ first)
-    slide_fits = rw (slide_is, t.sum, t.enters) (room_fits ((room_step h).entered _ _), room_fits ((room_step h).held _))
+    pub slide_fits : SlideFits w hi first
+    slide_fits = record { entered = rw (t.sum, t.enters) (room_fits ((room_step h).entered _ _)); left = rw slide_is (room_fits ((room_step h).held _)) }
 
 -- ---- of a series
 module _ {p : Plan} {f : List ℤ} {N : ℕ} (h : Passable p f N) where

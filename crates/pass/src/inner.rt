@@ -1,14 +1,12 @@
 // One pass over a series, by a running sum; zeros.
 ghost use Rattle.std.specs.Prelude.{◌≡◌, length, replicate, pos, ◌+ℤ◌, ◌-ℤ◌, ◌*ℤ◌};
-ghost use Rattle.std.specs.Int.{w64};
-ghost use Rattle.std.proofs.Common.{SFits};
 ghost use Rattle.meaning.specs.Extension.{fold};
 ghost use Rattle.meaning.specs.Smoothing as S;
 ghost use Rattle.plan.specs.Structs.{stage_of};
 ghost use Rattle.plan.specs.Tested.{Tested};
-ghost use Rattle.pass.specs.Ready.{Passable};
+ghost use Rattle.pass.specs.Ready.{CellFits, Passable, SlideFits};
 
-use crate::ends::walk;
+use crate::ends::{Window, walk};
 use crate::middle::straight;
 use crate::window::first_window;
 use extension::inner::{next, periods_before};
@@ -16,10 +14,7 @@ use plan::Plan;
 
 // A window and the cells beside it, weighed.
 pub fn cell(inner: i64, edge: i64, w: i64, lo: i64, hi: i64) -> i64
-    requires sfits { SFits w64 (inner *ℤ w) }
-    requires sfits_2 { SFits w64 (lo +ℤ hi) }
-    requires sfits_3 { SFits w64 (edge *ℤ (lo +ℤ hi)) }
-    requires sfits_4 { SFits w64 (inner *ℤ w +ℤ edge *ℤ (lo +ℤ hi)) }
+    requires { CellFits inner edge w lo hi }
     ensures { result ≡ inner *ℤ w +ℤ edge *ℤ (lo +ℤ hi) }
 {
     inner * w + edge * (lo + hi)
@@ -28,10 +23,7 @@ pub fn cell(inner: i64, edge: i64, w: i64, lo: i64, hi: i64) -> i64
 // The same by the weights of a plan.
 pub(crate) fn weigh(plan: Plan, w: i64, lo: i64, hi: i64) -> i64
     requires tested { Tested plan }
-    requires sfits { SFits w64 (pos plan.inner *ℤ w) }
-    requires sfits_2 { SFits w64 (lo +ℤ hi) }
-    requires sfits_3 { SFits w64 (pos plan.edge *ℤ (lo +ℤ hi)) }
-    requires sfits_4 { SFits w64 (pos plan.inner *ℤ w +ℤ pos plan.edge *ℤ (lo +ℤ hi)) }
+    requires fits { CellFits (pos plan.inner) (pos plan.edge) w lo hi }
     ensures { result ≡ pos plan.inner *ℤ w +ℤ pos plan.edge *ℤ (lo +ℤ hi) }
 {
     cell(plan.inner as i64, plan.edge as i64, w, lo, hi)
@@ -39,42 +31,47 @@ pub(crate) fn weigh(plan: Plan, w: i64, lo: i64, hi: i64) -> i64
 
 // The window one cell on: hi enters, first leaves.
 pub fn slide(w: i64, hi: i64, first: i64) -> i64
-    requires sfits { SFits w64 (w +ℤ hi) }
-    requires sfits_2 { SFits w64 (w +ℤ hi -ℤ first) }
+    requires { SlideFits w hi first }
     ensures { result ≡ w +ℤ hi -ℤ first }
 {
     w + hi - first
 }
 
 // One pass of src into dst, every cell of it. What stands at -1 - j stands as far from the period's end as j does from its start.
+#[tactic(auto, using(crate::specs::Course::reached_done))]
 pub fn pass(plan: Plan, src: &[i64], dst: &mut [i64])
     requires { Passable plan src.now (length dst.old) }
     ensures { dst.new ≡ S.pass fold (stage_of plan) src.now }
 {
     let len = src.len();
     let beyond = plan.radius as usize + 1;
-    let at = periods_before(plan.radius as usize, len);
-    let w = first_window(src, at.whole, at.rest);
-    let low = 2 * len - 1 - at.rest;
-    let high = next(at.rest, len);
+    let periods = periods_before(plan.radius as usize, len);
+    let first = Window {
+        at: 0,
+        sum: first_window(src, periods),
+        low: 2 * len - 1 - periods.rest,
+        high: next(periods.rest, len),
+    };
     // too short for a middle
     if len <= 2 * beyond {
-        walk(plan, src, 0, len, low, high, w, dst);
+        walk(plan, src, first, len, dst);
         return;
     }
-    let end = len - beyond;
-    let entering = walk(plan, src, 0, beyond, low, high, w, dst);
+    let entering = walk(plan, src, first, beyond, dst);
     let leaving = straight(plan, src, entering, dst);
-    walk(plan, src, end, len, end - beyond, len, leaving, dst);
+    let end = len - beyond;
+    let last = Window {
+        at: end,
+        sum: leaving,
+        low: end - beyond,
+        high: len,
+    };
+    walk(plan, src, last, len, dst);
 }
 
 // Writes zeros.
 pub fn clear(dst: &mut [i64])
     ensures { dst.new ≡ replicate (length dst.old) (pos 0) }
 {
-    let mut i: usize = 0;
-    while i < dst.len() {
-        dst[i] = 0;
-        i += 1;
-    }
+    dst.fill(0);
 }

@@ -16,15 +16,14 @@ pub(crate) fn straight(plan: Plan, src: &[i64], sum: i64, dst: &mut [i64]) -> i6
     let beyond = radius + 1;
     let end = src.len() - beyond;
     let mut w = sum;
-    let mut n = beyond;
-    while n < end {
+    // indices: three cells of one slice and one of another
+    for n in beyond..end {
         let lo = src[n - beyond];
         let first = src[n - radius];
         let hi = src[n + beyond];
         let v = weigh(plan, w, lo, hi);
         dst[n] = v;
         w = slide(w, hi, first);
-        n += 1;
     }
     w
 }

@@ -7,24 +7,24 @@ ghost use Rattle.theory.specs.Slide.{window};
 ghost use Rattle.theory.specs.Period.{up_to};
 ghost use Rattle.pass.specs.Ready.{Summable};
 
-use extension::inner::read;
+use extension::inner::{Periods, read};
 
 // The extension summed from 0 up to end, within one period.
+#[tactic(auto, using(crate::proofs::Sums::summing))]
 fn sum_to(src: &[i64], end: usize) -> i64
     requires summable { Summable end src.now }
     requires end_bound { end ≤ 2 * length src.now }
     ensures { result ≡ up_to (ext fold src.now) end }
 {
     let mut s: i64 = 0;
-    let mut i: usize = 0;
-    while i < end {
+    for i in 0..end {
         s += read(src, i);
-        i += 1;
     }
     s
 }
 
 // Whole periods summed: one, so many times.
+#[tactic(auto, using(crate::proofs::Sums::periods))]
 fn sum_periods(src: &[i64], periods: usize) -> i64
     requires { Summable (periods * (2 * length src.now)) src.now }
     ensures { result ≡ pos periods *ℤ up_to (ext fold src.now) (2 * length src.now) }
@@ -36,26 +36,13 @@ fn sum_periods(src: &[i64], periods: usize) -> i64
     (periods as i64) * one
 }
 
-// Whole periods and a part of one, on either side, and the last cell.
-fn both_sides(periods: i64, part: i64, last: i64) -> i64
-    requires sfits { SFits w64 (periods +ℤ part) }
-    requires sfits_2 { SFits w64 (periods +ℤ part +ℤ (periods +ℤ part)) }
-    requires sfits_3 { SFits w64 (periods +ℤ part +ℤ (periods +ℤ part) +ℤ last) }
-    ensures { result ≡ periods +ℤ part +ℤ (periods +ℤ part) +ℤ last }
-{
-    let side = periods + part;
-    side + side + last
-}
-
 // The window around 0 whose radius is so many whole periods and a rest. What stands at -1 - j stands at j: so it is
 // twice what lies from 0 up to the radius, and the cell that stands there.
-pub(crate) fn first_window(src: &[i64], whole: usize, rest: usize) -> i64
-    requires summable { Summable (2 * (whole * (2 * length src.now) + rest) + 1) src.now }
-    requires rest_bound { rest < 2 * length src.now }
-    ensures { result ≡ window (ext fold src.now) (whole * (2 * length src.now) + rest) (pos 0) }
+pub(crate) fn first_window(src: &[i64], radius: Periods) -> i64
+    requires summable { Summable (2 * (radius.whole * (2 * length src.now) + radius.rest) + 1) src.now }
+    requires rest_bound { radius.rest < 2 * length src.now }
+    ensures { result ≡ window (ext fold src.now) (radius.whole * (2 * length src.now) + radius.rest) (pos 0) }
 {
-    let periods = sum_periods(src, whole);
-    let part = sum_to(src, rest);
-    let last = read(src, rest);
-    both_sides(periods, part, last)
+    let side = sum_periods(src, radius.whole) + sum_to(src, radius.rest);
+    side + side + read(src, radius.rest)
 }

@@ -5,11 +5,11 @@
 --   Held ss xs         xs holds the kernel of ss: at every offset, 0 past its end
 --   Stageable p xs n   one stage more of p from xs into n cells: as many cells, and room for every sum
 --   Ready p nd no      an accepted plan, and as many cells as it has taps or more, in both slices
--- Laws: mirrored_apart, length_staged, at_staged; taps_of_none, taps_of_held, held_nonneg (no tap is negative);
+-- Laws: mirrored_apart, widening (the window around the centre, one tap more on either side), length_staged, at_staged; stage_cell, stage_slide, stage_low, stage_slid, stage_written (a turn of one stage more); taps_of_none, taps_of_held, held_nonneg (no tap is negative);
 -- swapped, stageable, stage_next (the steps of the recursion).
-use Rattle.std.specs.Prelude.{ℕ, zero, suc, ◌<◌, ◌≡◌, refl, List, [], ◌∷◌, length, set, replicate, ℤ, pos, negsuc, nat_abs, ◌-ℤ◌, ◌≤ℤ◌}
+use Rattle.std.specs.Prelude.{ℕ, zero, suc, ◌+◌, ◌<◌, ◌≡◌, refl, List, [], ◌∷◌, length, take, set, replicate, ℤ, pos, negsuc, nat_abs, ◌+ℤ◌, ◌-ℤ◌, ◌*ℤ◌, ◌≤ℤ◌}
 use Rattle.std.proofs.Math.Path.{sym}
-use Rattle.std.proofs.Common.{◌∙◌, ap, one-mul, le_trans, arith}
+use Rattle.std.proofs.Common.{◌∙◌, ap, one-mul, add-one, le_trans, arith}
 use Rattle.std.proofs.Math.Decide.{dec_lt}
 use Rattle.algebra.specs.Size.{nat_abs_sub}
 use Rattle.meaning.specs.Extension.{at}
@@ -19,12 +19,15 @@ use Rattle.meaning.specs.Bounds.{AcceptedPlan}
 use Rattle.theory.specs.Lists.{length_list_of, at_list_of, list_of_ext, list_of_const, at_past}
 use Rattle.theory.specs.Kernel.{kernel_cons, kernel_symmetric, kernel_nonneg, kernel_outside}
 use Rattle.theory.specs.Convolution.{pass_at_ext}
+use Rattle.theory.specs.Fill.{fill_next}
+use Rattle.theory.specs.Slide.{window}
 use Rattle.theory.specs.Stages.{reach_part, room_replicate}
 use Rattle.theory.specs.Sizes.{kernel_size}
 use Rattle.plan.specs.declared.Plan.{Plan}
 use Rattle.plan.specs.Structs.{stage_of, stages_of}
 use Rattle.plan.specs.Tested.{Tested, allowed_tested}
-use Rattle.pass.specs.Turn.{Roomy}
+use Rattle.pass.specs.Ready.{CellFits, SlideFits}
+use Rattle.pass.specs.Turn.{Roomy, Widening, Turn, cell_is, cell_fits, low_next, slide_is, slide_fits}
 
 unfoldable pub mirrored : List ℤ → ℤ → ℤ
 mirrored xs i = at xs (nat_abs i)
@@ -53,6 +56,11 @@ pub mirrored_apart : (xs : List ℤ) (n d : ℕ) {i : ℕ} → i ≡ apart n d �
 unfolding mirrored
 mirrored_apart xs n d e = rw (e, nat_abs_sub n d)
 
+-- on either side of the centre stands the same tap
+pub widening : (xs : List ℤ) {j : ℕ} {s : ℤ} → s ≡ window (mirrored xs) j (pos 0) → Widening (mirrored xs) j s (at xs (j + 1)) (at xs (j + 1))
+unfolding mirrored
+widening xs {j} e = record { sum = e; low = rw (add-one j); high = refl }
+
 module _ (s : Stage) (xs : List ℤ) where
   pub length_staged : length (staged s xs) ≡ length xs
   unfolding staged
@@ -61,6 +69,28 @@ module _ (s : Stage) (xs : List ℤ) where
   pub at_staged : (n : ℕ) → n < length xs → at (staged s xs) n ≡ pass_at s (mirrored xs) (pos n)
   unfolding staged
   at_staged n l = at_list_of (length xs) _ n l
+
+-- ---- a turn of one stage more: what leaves the window is read at m, and what enters it beyond
+module _ {p : Plan} {xs : List ℤ} {N : ℕ} (n : ℕ) {m : ℕ} {w lo : ℤ} (h : Stageable p xs N) (i : w ≡ window (mirrored xs) p.radius (pos n)) (j : lo ≡ mirrored xs (pos n -ℤ pos (p.radius + 1))) (k : m ≡ apart n p.radius) where
+  stage_turn : Turn (stage_of p) (mirrored xs) n (pos p.inner) (pos p.edge) w lo (at xs m) (at xs (n + p.radius + 1))
+  unfolding mirrored
+  stage_turn = record { inner = refl; edge = refl; sum = i; low = j; leaves = mirrored_apart xs n p.radius k; enters = refl }
+
+  pub stage_cell : CellFits (pos p.inner) (pos p.edge) w lo (at xs (n + p.radius + 1))
+  stage_cell = cell_fits stage_turn h.room
+
+  pub stage_slide : SlideFits w (at xs (n + p.radius + 1)) (at xs m)
+  stage_slide = slide_fits stage_turn h.room
+
+  pub stage_low : at xs m ≡ mirrored xs (pos (n + 1) -ℤ pos (p.radius + 1))
+  stage_low = low_next stage_turn
+
+  pub stage_slid : w +ℤ at xs (n + p.radius + 1) -ℤ at xs m ≡ window (mirrored xs) p.radius (pos (n + 1))
+  stage_slid = slide_is stage_turn
+
+  pub stage_written : (d : List ℤ) → length d ≡ length xs → n < length xs → take n d ≡ take n (staged (stage_of p) xs)
+      → take (n + 1) (set d n (pos p.inner *ℤ w +ℤ pos p.edge *ℤ (lo +ℤ at xs (n + p.radius + 1)))) ≡ take (n + 1) (staged (stage_of p) xs)
+  stage_written d e l t = fill_next _ d n t _ (omega arith) (rw length_staged (omega arith)) (cell_is stage_turn refl ∙ sym (at_staged _ _ n l))
 
 pub taps_of_none : (L : ℕ) → set (replicate L (pos 0)) 0 (pos 1) ≡ taps_of L []
 unfolding taps_of list_of kernel reach

@@ -3,7 +3,6 @@ ghost use Rattle.std.specs.Prelude.{◌≡◌, [], ◌+◌, ◌≤◌, length, r
 ghost use Rattle.meaning.specs.Limits.{max_taps};
 ghost use Rattle.meaning.specs.Extension.{at};
 ghost use Rattle.meaning.specs.Kernel as K;
-ghost use Rattle.meaning.specs.Smoothing as S;
 ghost use Rattle.meaning.specs.Bounds.{AcceptedPlan};
 ghost use Rattle.theory.specs.Slide.{window};
 ghost use Rattle.plan.specs.Structs.{stage_of, stages_of};
@@ -11,6 +10,7 @@ ghost use Rattle.pass.specs.Turn.{Windowed};
 ghost use Rattle.taps.specs.Taps.{mirrored, staged, taps_of, Held, Stageable, Ready};
 ghost use Rattle.taps.specs.Weigh.{strided_in, weight_in, Stridable, Weighable};
 
+use pass::inner::{cell, slide};
 use plan::Plan;
 
 // The most taps that an accepted plan has from the centre outward.
@@ -22,6 +22,7 @@ fn most_taps_agree()
 {}
 
 // How many a plan has.
+#[tactic(auto, using(theory::specs::Accepted::accepted_reach, theory::specs::Farthest::reach_most))]
 pub fn tap_count(plan: Plan) -> usize
     requires { AcceptedPlan (stages_of plan) }
     ensures { (result ≡ K.reach (stages_of plan) + 1) × (result ≤ max_taps) }
@@ -29,18 +30,11 @@ pub fn tap_count(plan: Plan) -> usize
     plan.reach() as usize + 1
 }
 
-// How far n is from p.
-fn apart(n: usize, p: usize) -> usize
-    ensures { result ≡ S.apart n p }
-{
-    if n < p { p - n } else { n - p }
-}
-
 // The tap at i, 0 past the last.
 fn tap_at(taps: &[i64], i: usize) -> i64
     ensures { result ≡ at taps.now i }
 {
-    if i < taps.len() { taps[i] } else { 0 }
+    taps.get(i).copied().unwrap_or(0)
 }
 
 // The window around the centre: on either side stand the same taps.
@@ -49,11 +43,9 @@ fn first_window(taps: &[i64], radius: usize) -> i64
     ensures { result ≡ window (mirrored taps.now) radius (pos 0) }
 {
     let mut s = tap_at(taps, 0);
-    let mut j: usize = 0;
-    while j < radius {
+    for j in 0..radius {
         let t = tap_at(taps, j + 1);
         s += t + t;
-        j += 1;
     }
     s
 }
@@ -68,24 +60,22 @@ fn stage_more(plan: Plan, src: &[i64], dst: &mut [i64])
     let edge = plan.edge as i64;
     let mut w = first_window(src, radius);
     let mut lo = tap_at(src, radius + 1);
-    let mut n: usize = 0;
-    while n < src.len() {
-        let first = tap_at(src, apart(n, radius));
+    for n in 0..src.len() {
+        let first = tap_at(src, n.abs_diff(radius));
         let hi = tap_at(src, n + radius + 1);
-        let v = pass::inner::cell(inner, edge, w, lo, hi);
-        dst[n] = v;
-        w = pass::inner::slide(w, hi, first);
+        dst[n] = cell(inner, edge, w, lo, hi);
+        w = slide(w, hi, first);
         lo = first;
-        n += 1;
     }
 }
 
 // The taps of no stage.
+#[tactic(auto, using(crate::specs::Taps::taps_of_none))]
 fn no_stages(dst: &mut [i64])
     requires { 1 ≤ length dst.old }
     ensures { dst.new ≡ taps_of (length dst.old) [] }
 {
-    pass::inner::clear(dst);
+    dst.fill(0);
     dst[0] = 1;
 }
 
@@ -113,12 +103,14 @@ pub fn taps_into(plan: Plan, taps: &mut [i64], other: &mut [i64])
 // ---- weights
 
 // The sum so far, and the taps at start, start + step, and so on.
+#[tactic(auto, using(crate::proofs::Sums::striding))]
 fn strided(taps: &[i64], start: usize, step: usize, so_far: i64) -> i64
     requires { Stridable taps.now start step so_far }
     ensures { result ≡ so_far +ℤ strided_in taps.now start step }
 {
     let mut s = so_far;
     let mut i = start;
+    // std's `step_by` goes through every index between two steps
     while i < taps.len() {
         s += taps[i];
         i += step;
@@ -127,12 +119,13 @@ fn strided(taps: &[i64], start: usize, step: usize, so_far: i64) -> i64
 }
 
 // How much sample p of len weighs in the result at n: the taps at its images, which lie so far from n, on either side, and every 2 len on.
+#[tactic(auto, using(crate::proofs::Sums::weighing), unfolding(crate::specs::Weigh::weight_in))]
 pub fn weight(taps: &[i64], len: usize, n: usize, p: usize) -> i64
     requires { Weighable taps.now len n p }
     ensures { result ≡ weight_in taps.now len n p }
 {
     let period = 2 * len;
-    let direct = apart(n, p);
+    let direct = n.abs_diff(p);
     let mirror = n + p + 1;
     let a = strided(taps, direct, period, 0);
     let b = strided(taps, period - direct, period, a);
