@@ -1,0 +1,3 @@
+-- The laws that callers cite.
+--   Mapped   cells that are each a function of another's
+pub mod Mapped
