@@ -1,5 +1,5 @@
 // What the outputs answer, each of a series or of a picture.
-ghost use Rattle.std.specs.Prelude.{◌≡◌, [], ◌∷◌, length};
+ghost use Rattle.std.specs.Prelude.{◌≡◌, [], ◌∷◌, length, IfSome, IfNone, ◌<◌, ◌≤◌, ℕ, nat_abs};
 ghost use Rattle.meaning.specs.Extension.{at};
 ghost use Rattle.meaning.specs.Refusals as R;
 ghost use Rattle.meaning.specs.Values as meant;
@@ -11,19 +11,12 @@ use plan::{Answer, Plan};
 pub fn result_refusal(limit: u64, results: &[i64]) -> Answer
     ensures { answer_of result ≡ R.first_of (R.row_at 12 (length results.now) (λ i. R.above limit (at results.now i)) ∷ []) }
 {
-    let mut i: usize = 0;
-    while i < results.len() {
-        if limit < refusals::inner::size(results[i]) {
-            return Answer {
-                number: 12,
-                position: i,
-            };
-        }
-        i += 1;
-    }
-    Answer {
-        number: 0,
-        position: 0,
+    match results.iter().position(|z| limit < z.unsigned_abs()) {
+        Some(position) => Answer { number: 12, position },
+        None => Answer {
+            number: 0,
+            position: 0,
+        },
     }
 }
 
