@@ -1,8 +1,8 @@
 -- The first result that is too large.
-use Rattle.std.proofs.Common.{rules, arith, ◌≡◌, ◌≤◌, ◌<◌, ℕ, length, nat_abs, lt-ltb, le-ltb}
+use Rattle.std.proofs.Common.{rules, arith, ◌≤◌, ◌<◌, ℕ, length, nat_abs, lt-ltb, le-ltb}
 use Rattle.meaning.specs.Extension.{at}
 use Rattle.theory.specs.Places.{all_found, all_done}
-use Rattle.outputs.proofs.inner.result_refusal.Goals as goal
+use Rattle.outputs.proofs.inner.results_allowed.Goals as goal
 
 pub returns-in-Some : goal.returns-in-Some
 returns-in-Some c =
