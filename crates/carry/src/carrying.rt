@@ -25,14 +25,12 @@ pub(crate) fn carry_into(divisor: u64, results: &[i64], cells: &mut [i32]) -> u6
     ensures value { result ≡ meant.carry divisor results.now (length results.now) }
     ensures cells_after { cells.new ≡ list_of (length results.now) (meant.carry_cell divisor results.now) }
 {
-    let mut carry: u64 = 0;
-    let mut n: usize = 0;
-    while n < results.len() {
+    let mut carry = 0;
+    for (n, cell) in cells.iter_mut().enumerate() {
         let sum = results[n] + carry as i64;
         let below = quotient::inner::floor(sum, divisor);
-        cells[n] = below as i32;
+        *cell = below as i32;
         carry = quotient::inner::rest(sum, below, divisor);
-        n += 1;
     }
     carry
 }

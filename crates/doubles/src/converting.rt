@@ -9,9 +9,5 @@ pub(crate) fn doubles_into(divisor: u64, results: &[i64], cells: &mut [f64])
     requires { Convertible divisor results.now (length cells.old) }
     ensures { cells.new ≡ map (λ z. meant.ratio z divisor) results.now }
 {
-    let mut i: usize = 0;
-    while i < results.len() {
-        cells[i] = inner::ratio(results[i], divisor);
-        i += 1;
-    }
+    cells::inner::map_into(results, cells, |res| inner::ratio(res, divisor));
 }

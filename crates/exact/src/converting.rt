@@ -16,20 +16,12 @@ pub(crate) fn doubles_into(results: &[i64], cells: &mut [f64])
     requires { Held results.now (length cells.old) }
     ensures { cells.new ≡ map (of_int binary64) results.now }
 {
-    let mut i: usize = 0;
-    while i < results.len() {
-        cells[i] = double_of(results[i]);
-        i += 1;
-    }
+    cells::inner::map_into(results, cells, double_of);
 }
 
 pub(crate) fn results_into(doubles: &[f64], results: &mut [i64])
     requires { Takable doubles.now (length results.old) }
     ensures { results.new ≡ map (to_signed 63) doubles.now }
 {
-    let mut n: usize = 0;
-    while n < doubles.len() {
-        results[n] = samples::inner::whole_of(doubles[n]);
-        n += 1;
-    }
+    cells::inner::map_into(doubles, results, samples::inner::whole_of);
 }

@@ -1,68 +1,44 @@
 // What the outputs answer, each of a series or of a picture.
-ghost use Rattle.std.specs.Prelude.{◌≡◌, [], ◌∷◌, length};
+ghost use Rattle.std.specs.Prelude.{◌≡◌, [], ◌∷◌, length, IfOk};
 ghost use Rattle.meaning.specs.Extension.{at};
 ghost use Rattle.meaning.specs.Refusals as R;
 ghost use Rattle.meaning.specs.Values as meant;
 ghost use Rattle.plan.specs.Structs.{stages_of, answer_of};
+ghost use Rattle.outputs.specs.Ready.{Passed};
 
-use plan::{Answer, Plan};
+use plan::{Plan, Raster, Refusal};
 
 // Row 12: the first result whose size is above the limit.
-pub fn result_refusal(limit: u64, results: &[i64]) -> Answer
+pub fn results_allowed(limit: u64, results: &[i64]) -> Result<(), Refusal>
     ensures { answer_of result ≡ R.first_of (R.row_at 12 (length results.now) (λ i. R.above limit (at results.now i)) ∷ []) }
 {
-    let mut i: usize = 0;
-    while i < results.len() {
-        if limit < refusals::inner::size(results[i]) {
-            return Answer {
-                number: 12,
-                position: i,
-            };
-        }
-        i += 1;
-    }
-    Answer {
-        number: 0,
-        position: 0,
+    match results.iter().position(|z| limit < z.unsigned_abs()) {
+        Some(position) => Err(Refusal::BadResult { position }),
+        None => Ok(()),
     }
 }
 
-// A summary has no cells, and gives the results' own length.
-pub fn series(plan: Plan, bound: u64, results: &[i64], cells: usize) -> Answer
-    ensures { answer_of result ≡ R.first_of (meant.output_rows (R.series_of (stages_of plan) (length results.now)) bound results.now cells) }
+// The divisor, where a series may be put out. A summary has no cells, and gives the results' own length.
+pub fn series(plan: Plan, bound: u64, results: &[i64], cells: usize) -> Result<u64, Refusal>
+    ensures answer { answer_of result ≡ R.first_of (meant.output_rows (R.series_of (stages_of plan) (length results.now)) bound results.now cells) }
+    ensures passed { IfOk result (λ d. Passed (R.series_of (stages_of plan) (length results.now)) d results.now cells) }
 {
     let n = results.len();
-    let number = refusals::inner::series_refusal(plan, bound, n, cells != n);
-    if number != 0 {
-        return Answer {
-            number,
-            position: 0,
-        };
-    }
-    result_refusal(plan::inner::scaled(bound, plan), results)
+    refusals::inner::series_allowed(plan, bound, n, cells != n)?;
+    let divisor = plan.divisor();
+    results_allowed(bound * divisor, results)?;
+    Ok(divisor)
 }
 
-// Where row 7 applies the cells asked are 0, and whether lengths differ from that does not matter.
-pub fn picture(
-    across: Plan,
-    down: Plan,
-    bound: u64,
-    width: u64,
-    height: u64,
-    results: &[i64],
-    cells: usize,
-) -> Answer
-    ensures { answer_of result ≡ R.first_of (meant.output_rows (R.picture_of (stages_of across) (stages_of down) width height) bound results.now cells) }
+// The product of both divisors, where a picture may be put out. Where row 7 applies the cells asked are 0, and whether lengths differ from that does not matter.
+pub fn picture(raster: Raster, results: &[i64], cells: usize) -> Result<u64, Refusal>
+    ensures answer { answer_of result ≡ R.first_of (meant.output_rows (R.picture_of (stages_of raster.across) (stages_of raster.down) raster.width raster.height) raster.bound results.now cells) }
+    ensures passed { IfOk result (λ d. Passed (R.picture_of (stages_of raster.across) (stages_of raster.down) raster.width raster.height) d results.now cells) }
 {
-    let asked = refusals::inner::picture_cells(width, height);
+    let asked = refusals::inner::picture_cells(raster.width, raster.height).unwrap_or(0);
     let wrong_length = refusals::inner::lengths_differ(results.len(), asked, cells, asked);
-    let number = refusals::inner::picture_refusal(across, down, bound, width, height, wrong_length);
-    if number != 0 {
-        return Answer {
-            number,
-            position: 0,
-        };
-    }
-    let limit = plan::inner::scaled(plan::inner::scaled(bound, across), down);
-    result_refusal(limit, results)
+    refusals::inner::picture_allowed(raster, wrong_length)?;
+    let divisor = raster.across.divisor() * raster.down.divisor();
+    results_allowed(raster.bound * divisor, results)?;
+    Ok(divisor)
 }

@@ -27,24 +27,17 @@ pub(crate) fn refusal(bound: u64, doubles: &[f64], samples: usize) -> Checked
     inner::double_refusal(bound, doubles)
 }
 
-// A double that is accepted is cast, and loses nothing, but for the sign of minus zero.
+// A double that is accepted is a whole number that an i32 holds.
 fn sample_of(x: f64) -> i32
     requires { meant.takes max_bound x ≡ true }
     ensures { result ≡ to_signed 31 x }
 {
-    if x != 0.0 {
-        return x as i32;
-    }
-    0
+    inner::whole_of(x) as i32
 }
 
 pub(crate) fn take_into(doubles: &[f64], samples: &mut [i32])
     requires { Takable doubles.now (length samples.old) }
     ensures { samples.new ≡ map (to_signed 31) doubles.now }
 {
-    let mut n: usize = 0;
-    while n < doubles.len() {
-        samples[n] = sample_of(doubles[n]);
-        n += 1;
-    }
+    cells::inner::map_into(doubles, samples, sample_of);
 }

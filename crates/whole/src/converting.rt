@@ -30,9 +30,5 @@ pub(crate) fn whole_into(divisor: u64, mode: u64, results: &[i64], cells: &mut [
     requires { Convertible divisor results.now (length cells.old) }
     ensures { cells.new ≡ map (λ z. meant.rounded mode z divisor) results.now }
 {
-    let mut n: usize = 0;
-    while n < results.len() {
-        cells[n] = rounded(mode, results[n], divisor);
-        n += 1;
-    }
+    cells::inner::map_into(results, cells, |res| rounded(mode, res, divisor));
 }

@@ -22,7 +22,7 @@ use Rattle.carry.proofs.carrying.carry_into.Goals as goal
 use Rattle.carry.proofs.carrying.carry_into.Goals.{After-floor-below, In-loop-n}
 
 pub loop-n-init : goal.loop-n-init
-loop-n-init c = (omega arith, c.requires.same, sym (carry_none c.args.divisor c.args.results.now), refl)
+loop-n-init c = (sym (carry_none c.args.divisor c.args.results.now), refl)
 
 -- the result, its carry, and both together
 module _ (c : In-loop-n) where
@@ -43,13 +43,13 @@ module _ (c : In-loop-n) where
   ready = c.requires.each n (omega arith)
 
   carry_fits : SFits w64 (pos k)
-  carry_fits = rw c.loop-n.invariant.2 (record { sfits = omega (arith, carry_below ready.divisor.0 r n, ready.divisor.1) })
+  carry_fits = rw c.loop-n.invariant.0 (record { sfits = omega (arith, carry_below ready.divisor.0 r n, ready.divisor.1) })
 
   result_is : to_z w64 (of_z w64 (at r n)) ≡ at r n
   result_is = let f : SFits w64 (at r n) = search rules in to_z-of_z {w = w64} f
 
   carry_is : to_z w64 k ≡ pos (carry d r n)
-  carry_is = to_z_pos w64 carry_fits.sfits ∙ ap pos c.loop-n.invariant.2
+  carry_is = to_z_pos w64 carry_fits.sfits ∙ ap pos c.loop-n.invariant.0
 
   whole : to_z w64 (of_z w64 (at r n)) +ℤ to_z w64 k ≡ at r n +ℤ pos (carry d r n)
   whole = ap₂ ◌+ℤ◌ result_is carry_is
@@ -69,10 +69,10 @@ overflow_add-sum c = added (goal.at.overflow_add-sum c).In-loop-n
 quotient_is : (c : After-floor-below) (b : In-loop-n) → c.floor-below.result ≡ floor (to_z w64 (of_z w64 (to_z w64 (of_z w64 (at (r b) (n b))) +ℤ to_z w64 (k b)))) (d b) → to_z w64 (of_z w64 c.floor-below.result) ≡ carry_cell (d b) (r b) (n b)
 quotient_is c b e = to_z-of_z {w = w64} (sfits_of c.floor-below.type_inv) ∙ e ∙ rw (sum_is b) (sym (carry_cell_lem (d b) (r b) (n b)))
 
-pub overflow_cast-cells : goal.overflow_cast-cells
-overflow_cast-cells c =
-    let b = (goal.at.overflow_cast-cells c).In-loop-n in
-    rw (quotient_is (goal.at.overflow_cast-cells c).After-floor-below b c.floor-below.ensures) (cell_fits (r b) (n b) (ready b))
+pub overflow_cast-cell : goal.overflow_cast-cell
+overflow_cast-cell c =
+    let b = (goal.at.overflow_cast-cell c).In-loop-n in
+    rw (quotient_is (goal.at.overflow_cast-cell c).After-floor-below b c.floor-below.ensures) (cell_fits (r b) (n b) (ready b))
 
 pub rest-carry-requires : goal.rest-carry-requires
 rest-carry-requires c =
@@ -88,10 +88,8 @@ loop-n-preserved c =
     let b = (goal.at.loop-n-preserved c).In-loop-n in
     let q = quotient_is (goal.at.loop-n-preserved c).After-floor-below b c.floor-below.ensures in
     let cells = list_of (length (r b)) (carry_cell (d b) (r b)) in (
-      omega arith,
-      simp length-set l.invariant.1,
       c.rest-carry.ensures ∙ rw (sum_is b) (sym (carry_next (d b) (r b) (n b))),
-      fill_next cells l.cells (n b) l.invariant.3 _ (omega arith) (rw (length_list_of (length (r b)) (carry_cell (d b) (r b))) (omega arith)) (rw q (to_z-of_z {w = w32} (cell_fits (r b) (n b) (ready b))) ∙ sym (at_list_of (length (r b)) (carry_cell (d b) (r b)) (n b) (omega arith))),
+      fill_next cells l.cells (n b) l.invariant.1 _ (omega arith) (rw (length_list_of (length (r b)) (carry_cell (d b) (r b))) (omega arith)) (rw q (to_z-of_z {w = w32} (cell_fits (r b) (n b) (ready b))) ∙ sym (at_list_of (length (r b)) (carry_cell (d b) (r b)) (n b) (omega arith))),
     )
 
 pub returns : goal.returns
@@ -100,4 +98,4 @@ returns c =
     let a = c.args in
     let r = a.results.now in
     let e : l.n ≡ length r = omega arith in
-    record { value = l.invariant.2 ∙ ap (carry a.divisor r) e; cells_after = fill_done (list_of (length r) (carry_cell a.divisor r)) l.cells l.n l.invariant.3 (omega arith) (rw (length_list_of (length r) (carry_cell a.divisor r)) (omega arith)) }
+    record { value = l.invariant.0 ∙ ap (carry a.divisor r) e; cells_after = fill_done (list_of (length r) (carry_cell a.divisor r)) l.cells l.n l.invariant.1 (omega arith) (rw (length_list_of (length r) (carry_cell a.divisor r)) (omega arith)) }

@@ -7,7 +7,4 @@ use Rattle.meaning.specs.Carry.{carry, carry_cell}
 use Rattle.carry.proofs.carrying.carry_into.Given as goal
 
 abbrev pub invariant-loop-n : goal.invariant-loop-n
-invariant-loop-n l = (l.n ≤ length l.results) × (length l.cells ≡ length l.results) × (l.carry ≡ carry l.divisor l.results l.n) × (take l.n l.cells ≡ take l.n (list_of (length l.results) (carry_cell l.divisor l.results)))
-
-abbrev pub decreases-loop-n : goal.decreases-loop-n
-decreases-loop-n l = length l.results - l.n
+invariant-loop-n l = (l.carry ≡ carry l.divisor l.results l.n) × (take l.n l.cells ≡ take l.n (list_of (length l.results) (carry_cell l.divisor l.results)))

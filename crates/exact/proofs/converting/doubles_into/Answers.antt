@@ -1,20 +1,7 @@
--- Before turn i the first i results are converted.
-use mathlib.Core.Path.{◌≡◌}
-use native.Mathlib.Omega.{arith}
-use borrow.Author.Rules.{rules}
-use lib.ListN.{length-set}
-use lib.IntN.{pos}
-use Rattle.meaning.specs.Extension.{at}
-use lib.Ieee.{binary64, of_int}
-use Rattle.theory.specs.Fill.{map_next}
+-- Each cell is what the call makes of its own.
+use Rattle.std.proofs.Common.{rules}
+use Rattle.cells.specs.Mapped.{mapped}
 use Rattle.exact.proofs.converting.doubles_into.Goals as goal
 
-pub loop-i-preserved : goal.loop-i-preserved
-loop-i-preserved c =
-    let l = c.loop-i in
-    let a = c.args in
-    let value : c.double_of.result ≡ of_int binary64 (at a.results.now l.i) = search rules in (
-      omega arith,
-      simp length-set l.invariant.1,
-      map_next (of_int binary64) a.results.now l.cells l.i l.invariant.2 (pos 0) _ (omega arith) (omega arith) value,
-    )
+pub returns : goal.returns
+returns c = mapped _ _ _ (λ x y k. search rules) c.map_into.ensures

@@ -1,38 +1,53 @@
 -- Rows 1 to 8, and where none applies row 12.
-use mathlib.Core.Bool.{◌||◌}
+use mathlib.Core.Path.{◌≡◌, refl}
+use mathlib.Core.Bool.{false, ◌||◌}
+use Prim.Native.Nat.{◌*◌}
+use native.Mathlib.Omega.{arith}
+use borrow.Author.Rules.{rules}
 use lib.ListN.{length}
 use Rattle.meaning.specs.Refusals.{differs, picture_of}
-use Rattle.meaning.specs.Bounds.{AllowedSides}
 use Rattle.theory.specs.Accepted.{sides_tested}
-use Rattle.plan.specs.Structs.{stages_of}
-use Rattle.refusals.specs.Sides.{cells_asked}
-use Rattle.plan.specs.Tested.{allowed_tested}
-use Rattle.outputs.specs.Steps.{test_refused, test_rest, picture_limit}
+use Rattle.plan.specs.Structs.{stages_of, passed_on, refused_number}
+use Rattle.refusals.specs.Sides.{cells_or_0, cells_asked}
+use Rattle.outputs.specs.Steps.{Over, test_refused, test_rest, picture_over, over_passed}
 use Rattle.outputs.proofs.inner.picture.Goals as goal
-use Rattle.outputs.proofs.inner.picture.Goals.{Else-number-ne0}
+use Rattle.outputs.proofs.inner.picture.Goals.{After-lengths_differ-wrong_length, After-divisor-2}
 
-pub returns-then-number-ne0 : goal.returns-then-number-ne0
-returns-then-number-ne0 c =
+lengths : (c : After-lengths_differ-wrong_length) → (picture_of (stages_of c.args.raster.across) (stages_of c.args.raster.down) c.args.raster.width c.args.raster.height).bad_size ≡ false → c.lengths_differ-wrong_length.result ≡ (differs (length c.args.results.now) (c.args.raster.width * c.args.raster.height) || differs c.args.cells (c.args.raster.width * c.args.raster.height))
+lengths c =
     let a = c.args in
-    test_refused (picture_of (stages_of a.across) (stages_of a.down) a.width a.height) a.bound a.results.now a.cells c.picture_refusal-number.ensures
-    (cells_asked a.width a.height (λ n. differs (length a.results.now) n || differs a.cells n) c.picture_cells-asked.ensures c.lengths_differ-wrong_length.ensures)
-    c.if-number-ne0.true
+    let asked : c.unwrap_or-asked.result ≡ cells_or_0 a.raster.width a.raster.height = search rules in
+    cells_asked a.raster.width a.raster.height (λ n. differs (length a.results.now) n || differs a.cells n) asked c.lengths_differ-wrong_length.ensures
+
+pub returns-in_err-picture_allowed-clause-answer : goal.returns-in_err-picture_allowed-clause-answer
+returns-in_err-picture_allowed-clause-answer c =
+    let a = c.args in
+    let r = a.raster in
+    passed_on _ _ c.from_residual.ensures.1 (test_refused (picture_of (stages_of r.across) (stages_of r.down) r.width r.height) r.bound a.results.now a.cells (lengths (goal.at.returns-in_err-picture_allowed-clause-answer c).After-lengths_differ-wrong_length) c.in_err-picture_allowed.ensures (refused_number _))
 
 -- once rows 1 to 8 are off
-allowed : (c : Else-number-ne0) → AllowedSides (stages_of c.args.across) (stages_of c.args.down) c.args.bound c.args.width c.args.height
-allowed c =
+over : (c : After-divisor-2) → Over (picture_of (stages_of c.args.raster.across) (stages_of c.args.raster.down) c.args.raster.width c.args.raster.height) c.args.raster.bound (c.divisor.result * c.divisor-2.result)
+over c =
+    let r = c.args.raster in
+    picture_over r.across r.down (sides_tested (stages_of r.across) (stages_of r.down) r.bound r.width r.height _ c.in_ok-picture_allowed.ensures refl) c.divisor.ensures c.divisor-2.ensures
+
+pub overflow_mul-divisor : goal.overflow_mul-divisor
+overflow_mul-divisor c = omega (arith, (over (goal.at.overflow_mul-divisor c).After-divisor-2).divisor.1)
+
+pub overflow_mul-raster : goal.overflow_mul-raster
+overflow_mul-raster c = omega (arith, (over (goal.at.overflow_mul-raster c).After-divisor-2).product)
+
+pub returns-in_err-results_allowed-clause-answer : goal.returns-in_err-results_allowed-clause-answer
+returns-in_err-results_allowed-clause-answer c =
     let a = c.args in
-    sides_tested (stages_of a.across) (stages_of a.down) a.bound a.width a.height c.lengths_differ-wrong_length.result c.picture_refusal-number.ensures c.if-number-ne0.false
+    let r = a.raster in
+    passed_on _ _ c.from_residual-in_err-results_allowed.ensures.1 (test_rest (picture_of (stages_of r.across) (stages_of r.down) r.width r.height) r.bound a.results.now a.cells (lengths (goal.at.returns-in_err-results_allowed-clause-answer c).After-lengths_differ-wrong_length) c.in_ok-picture_allowed.ensures refl (over (goal.at.returns-in_err-results_allowed-clause-answer c).After-divisor-2).divides c.in_err-results_allowed.ensures)
 
-pub scaled-requires : goal.scaled-requires
-scaled-requires c = allowed_tested c.args.across (allowed (goal.at.scaled-requires c).Else-number-ne0).across
-
-pub scaled-limit-requires : goal.scaled-limit-requires
-scaled-limit-requires c = allowed_tested c.args.down (allowed (goal.at.scaled-limit-requires c).Else-number-ne0).down
-
-pub returns : goal.returns
-returns c =
+pub returns-clause-answer : goal.returns-clause-answer
+returns-clause-answer c =
     let a = c.args in
-    test_rest (picture_of (stages_of a.across) (stages_of a.down) a.width a.height) a.bound a.results.now a.cells c.picture_refusal-number.ensures
-    (cells_asked a.width a.height (λ n. differs (length a.results.now) n || differs a.cells n) c.picture_cells-asked.ensures c.lengths_differ-wrong_length.ensures)
-    c.if-number-ne0.false (picture_limit a.across a.down a.bound a.width a.height c.scaled.result (allowed (goal.at.returns c).Else-number-ne0) c.scaled.ensures c.scaled-limit.ensures) c.result_refusal.ensures
+    let r = a.raster in
+    test_rest (picture_of (stages_of r.across) (stages_of r.down) r.width r.height) r.bound a.results.now a.cells (lengths (goal.at.returns-clause-answer c).After-lengths_differ-wrong_length) c.in_ok-picture_allowed.ensures refl (over (goal.at.returns-clause-answer c).After-divisor-2).divides c.in_ok-results_allowed.ensures
+
+pub returns-clause-passed : goal.returns-clause-passed
+returns-clause-passed c = over_passed _ _ _ (over (goal.at.returns-clause-passed c).After-divisor-2) (returns-clause-answer c)

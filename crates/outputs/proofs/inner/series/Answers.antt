@@ -1,29 +1,40 @@
 -- Rows 1 to 8, and where none applies row 12.
 use mathlib.Core.Path.{refl}
+use native.Mathlib.Omega.{arith}
 use lib.ListN.{length}
-use Rattle.meaning.specs.Refusals.{differs, series_of}
+use Rattle.meaning.specs.Refusals.{series_of}
 use Rattle.theory.specs.Accepted.{length_tested}
-use Rattle.plan.specs.Structs.{stages_of}
-use Rattle.plan.specs.Tested.{allowed_tested}
-use Rattle.outputs.specs.Steps.{test_refused, test_rest, series_lengths, series_limit}
+use Rattle.plan.specs.Structs.{stages_of, passed_on, refused_number}
+use Rattle.outputs.specs.Steps.{Over, test_refused, test_rest, series_lengths, series_over, over_passed}
 use Rattle.outputs.proofs.inner.series.Goals as goal
+use Rattle.outputs.proofs.inner.series.Goals.{After-divisor-divisor}
 
-pub returns-then-number-ne0 : goal.returns-then-number-ne0
-returns-then-number-ne0 c =
+pub returns-in_err-series_allowed-clause-answer : goal.returns-in_err-series_allowed-clause-answer
+returns-in_err-series_allowed-clause-answer c =
     let a = c.args in
     let n = length a.results.now in
-    test_refused (series_of (stages_of a.plan) n) a.bound a.results.now a.cells c.series_refusal-number.ensures (λ z. series_lengths n a.cells refl) c.if-number-ne0.true
+    passed_on _ _ c.from_residual.ensures.1 (test_refused (series_of (stages_of a.plan) n) a.bound a.results.now a.cells (λ z. series_lengths n a.cells refl) c.in_err-series_allowed.ensures (refused_number _))
 
-pub scaled-requires : goal.scaled-requires
-scaled-requires c =
+-- once rows 1 to 8 are off
+over : (c : After-divisor-divisor) → Over (series_of (stages_of c.args.plan) (length c.args.results.now)) c.args.bound c.divisor-divisor.result
+over c = series_over c.args.plan (length_tested (stages_of c.args.plan) c.args.bound (length c.args.results.now) _ c.in_ok-series_allowed.ensures refl) c.divisor-divisor.ensures
+
+pub overflow_mul-bound : goal.overflow_mul-bound
+overflow_mul-bound c = omega (arith, (over (goal.at.overflow_mul-bound c).After-divisor-divisor).product)
+
+pub returns-in_err-results_allowed-clause-answer : goal.returns-in_err-results_allowed-clause-answer
+returns-in_err-results_allowed-clause-answer c =
     let a = c.args in
     let n = length a.results.now in
-    allowed_tested a.plan (length_tested (stages_of a.plan) a.bound n (differs a.cells n) c.series_refusal-number.ensures c.if-number-ne0.false).plan
+    let o = over (goal.at.returns-in_err-results_allowed-clause-answer c).After-divisor-divisor in
+    passed_on _ _ c.from_residual-in_err-results_allowed.ensures.1 (test_rest (series_of (stages_of a.plan) n) a.bound a.results.now a.cells (λ z. series_lengths n a.cells refl) c.in_ok-series_allowed.ensures refl o.divides c.in_err-results_allowed.ensures)
 
-pub returns : goal.returns
-returns c =
+pub returns-clause-answer : goal.returns-clause-answer
+returns-clause-answer c =
     let a = c.args in
     let n = length a.results.now in
-    let z = c.if-number-ne0.false in
-    test_rest (series_of (stages_of a.plan) n) a.bound a.results.now a.cells c.series_refusal-number.ensures (λ b. series_lengths n a.cells refl) z
-    (series_limit a.plan a.bound n (length_tested (stages_of a.plan) a.bound n (differs a.cells n) c.series_refusal-number.ensures z) c.scaled.ensures) c.result_refusal.ensures
+    let o = over (goal.at.returns-clause-answer c).After-divisor-divisor in
+    test_rest (series_of (stages_of a.plan) n) a.bound a.results.now a.cells (λ z. series_lengths n a.cells refl) c.in_ok-series_allowed.ensures refl o.divides c.in_ok-results_allowed.ensures
+
+pub returns-clause-passed : goal.returns-clause-passed
+returns-clause-passed c = over_passed _ _ _ (over (goal.at.returns-clause-passed c).After-divisor-divisor) (returns-clause-answer c)

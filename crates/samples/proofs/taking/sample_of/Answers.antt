@@ -1,20 +1,14 @@
--- The cast holds of every accepted double but minus zero, and 0 of either sign is 0.
-use Rattle.std.proofs.Common.{sym, arith, to_z-of_z, w32}
+-- What is cut to 64 bits is small, and the same number in 32.
+use Rattle.std.proofs.Common.{◌∙◌, to_z-of_z, w32, w64}
 use borrow.Author.Rules.{sfits_of}
-use borrow.Author.Tests.{not-true, not-false}
-use lib.Ieee.{of_bits, ne}
-use lib.Ieee.Casts.{to_signed_in}
-use Rattle.meaning.specs.Limits.{max_bound}
-use Rattle.theory.specs.Doubles.{zero_cut, taken_casts}
+use Rattle.samples.specs.Narrow.{narrow_taken, narrow_same, narrow_fits}
 use Rattle.samples.proofs.taking.sample_of.Goals as goal
 
-pub float_to_int-result : goal.float_to_int-result
-unfolding of_bits ne
-float_to_int-result c = taken_casts max_bound (omega arith) _ c.requires 31 (omega arith) (not-true _ c.if-x.true)
+pub whole_of-requires : goal.whole_of-requires
+whole_of-requires c = narrow_taken _ c.requires
 
-pub returns-then-x : goal.returns-then-x
-returns-then-x c = to_z-of_z {w = w32} (sfits_of (to_signed_in 31 c.args.x))
+pub overflow_cast-result : goal.overflow_cast-result
+overflow_cast-result c = rw (to_z-of_z {w = w64} (sfits_of c.whole_of.type_inv), c.whole_of.ensures) (narrow_fits _ c.requires)
 
 pub returns : goal.returns
-unfolding of_bits ne
-returns c = sym (zero_cut 31 (omega arith) c.args.x (not-false _ c.if-x.false))
+returns c = to_z-of_z {w = w32} (overflow_cast-result c) ∙ to_z-of_z {w = w64} (sfits_of c.whole_of.type_inv) ∙ c.whole_of.ensures ∙ narrow_same _ c.requires
