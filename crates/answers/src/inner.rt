@@ -1,10 +1,21 @@
 // What a host is told: the number, and the rest through what it lends.
-ghost use Rattle.std.specs.Prelude.{◌≡◌};
+ghost use Rattle.std.specs.Prelude.{◌≡◌, ◌^◌, ◌<◌};
 ghost use Rattle.plan.specs.Structs.{answer_of};
 ghost use Rattle.theory.specs.Narrow.{Narrow};
 ghost use Rattle.answers.specs.Told.{said};
 
 use plan::Refusal;
+
+// Of a call that answers no place: the number alone.
+pub fn number<T: Copy>(ended: Result<T, Refusal>) -> u32
+    requires { (answer_of ended).number < 2 ^ 32 }
+    ensures { result ≡ (answer_of ended).number }
+{
+    match ended {
+        Ok(_) => 0,
+        Err(refusal) => refusal.number() as u32,
+    }
+}
 
 // Of a call that tests no samples.
 pub fn told<T: Copy>(ended: Result<T, Refusal>, place: &mut u32) -> u32

@@ -7,7 +7,7 @@ ghost use Rattle.plan.specs.Structs.{answer_of};
 ghost use Rattle.arguments.specs.Numbers.{numbers_of};
 ghost use Rattle.arguments.specs.Fields.{AreFields};
 
-use plan::{Plan, Refusal};
+use plan::{Plan, Raster, Refusal};
 use record::Fields;
 
 // Above every limit.
@@ -46,6 +46,23 @@ pub fn plan(numbers: &[f64]) -> Plan
     let edge = count(numbers[2]);
     let passes = count(numbers[3]);
     Plan::new(radius, inner, edge, passes)
+}
+
+// A picture's two plans, its bound and its sides.
+pub fn raster(across: &[f64], down: &[f64], bound: f64, width: f64, height: f64) -> Raster
+    ensures across { numbers_of result.across ≡ plan_in across.now }
+    ensures down { numbers_of result.down ≡ plan_in down.now }
+    ensures bound { result.bound ≡ count_of bound }
+    ensures width { result.width ≡ count_of width }
+    ensures height { result.height ≡ count_of height }
+{
+    Raster {
+        across: plan(across),
+        down: plan(down),
+        bound: count(bound),
+        width: count(width),
+        height: count(height),
+    }
 }
 
 // The numbers of a record, each of the width of its field. Rows 1 to 5 of the writer: a number that its field cannot hold.

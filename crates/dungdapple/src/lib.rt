@@ -24,7 +24,7 @@ ghost use Rattle.writer.specs.Contract as writing;
 ghost use Rattle.answers.specs.Told.{said};
 ghost use Rattle.dungdapple.specs.Told.{Points, Carries};
 
-use plan::{Answer, Checked, Point};
+use plan::Raster;
 
 // Smooths the samples into the results, and leaves zeros in work.
 pub fn dungdapple_smooth_series(
@@ -59,12 +59,8 @@ pub fn dungdapple_smooth_picture(
 ) -> u32
     ensures { smoothing.Gives (C.smooth_picture fold fold (stages_in across.now) (stages_in down.now) (count_of bound) (count_of width) (count_of height) samples.now results.old work.old) (said result place.new bad.new) results.new work.new }
 {
-    let rows = arguments::inner::plan(across);
-    let columns = arguments::inner::plan(down);
-    let most = arguments::inner::count(bound);
-    let wide = arguments::inner::count(width);
-    let high = arguments::inner::count(height);
-    let answer = picture::smooth_picture(rows, columns, most, wide, high, samples, results, work);
+    let raster = arguments::inner::raster(across, down, bound, width, height);
+    let answer = picture::smooth_picture(raster, samples, results, work);
     answers::inner::checked(answer, place, bad)
 }
 
@@ -87,13 +83,8 @@ pub fn dungdapple_edit_series(
     let at = arguments::inner::count(position) as usize;
     let new = arguments::inner::whole(value);
     let edited = edit::inner::edit_alone(numbers, most, at, new, samples, results);
-    *count = edited.count as u32;
-    let answer = Checked {
-        number: edited.number,
-        position: edited.position,
-        bad: edited.bad,
-    };
-    answers::inner::checked(answer, place, bad)
+    *count = edited.unwrap_or(0) as u32;
+    answers::inner::checked(edited, place, bad)
 }
 
 // The smoothed value at `position`; plus zero where refused. It is lent no work.
@@ -111,24 +102,9 @@ pub fn dungdapple_point(
     let numbers = arguments::inner::plan(plan);
     let most = arguments::inner::count(bound);
     let at = arguments::inner::count(position) as usize;
-    let answer = point::inner::point_alone(numbers, most, at, samples);
-    match answer {
-        Point::Value(x) => {
-            *value = x;
-            *place = 0;
-            *bad = 0;
-            0
-        }
-        Point::Refused(number, index, count) => {
-            *value = 0.0;
-            let told = Checked {
-                number,
-                position: index,
-                bad: count,
-            };
-            answers::inner::checked(told, place, bad)
-        }
-    }
+    let pointed = point::inner::point_alone(numbers, most, at, samples);
+    *value = pointed.unwrap_or(0.0);
+    answers::inner::checked(pointed, place, bad)
 }
 
 // Radius and edge weight for a standard deviation in hundredths; both 0 where refused.
@@ -144,10 +120,11 @@ pub fn dungdapple_plan_for(
     let sigma = arguments::inner::count(sigma_hundredths);
     let times = arguments::inner::count(passes);
     let weight = arguments::inner::count(inner);
-    let found = planner::plan_for(sigma, times, weight);
+    let planned = planner::plan_for(sigma, times, weight);
+    let found = planned.unwrap_or(Planned { radius: 0, edge: 0 });
     *radius = found.radius as u32;
     *edge = found.edge as u32;
-    found.number as u32
+    answers::inner::number(planned)
 }
 
 // The sum of a plan's K-fold kernel, D^K; 0 of a plan that is not accepted under any bound.
@@ -213,13 +190,9 @@ pub fn dungdapple_whole_picture(
 ) -> u32
     ensures { conversion.Gives (meant.whole_picture_by (stages_in across.now) (stages_in down.now) (count_of bound) (count_of width) (count_of height) (count_of mode) results.now cells.old) (said result place.new 0) cells.new }
 {
-    let rows = arguments::inner::plan(across);
-    let columns = arguments::inner::plan(down);
-    let most = arguments::inner::count(bound);
-    let wide = arguments::inner::count(width);
-    let high = arguments::inner::count(height);
+    let raster = arguments::inner::raster(across, down, bound, width, height);
     let half = arguments::inner::count(mode);
-    let answer = whole::whole_picture_by(rows, columns, most, wide, high, half, results, cells);
+    let answer = whole::whole_picture_by(raster, half, results, cells);
     answers::inner::told(answer, place)
 }
 
@@ -237,12 +210,8 @@ pub fn dungdapple_carry_series(
     let numbers = arguments::inner::plan(plan);
     let most = arguments::inner::count(bound);
     let carried = carry::carry_series(numbers, most, results, cells);
-    *carry = carried.carry as f64;
-    let answer = Answer {
-        number: carried.number,
-        position: carried.position,
-    };
-    answers::inner::told(answer, place)
+    *carry = carried.unwrap_or(0) as f64;
+    answers::inner::told(carried, place)
 }
 
 // The same of a picture, over the product of both divisors.
@@ -259,18 +228,10 @@ pub fn dungdapple_carry_picture(
 ) -> u32
     ensures { Carries (carrying.carry_picture (stages_in across.now) (stages_in down.now) (count_of bound) (count_of width) (count_of height) results.now cells.old) (said result place.new 0) carry.new cells.new }
 {
-    let rows = arguments::inner::plan(across);
-    let columns = arguments::inner::plan(down);
-    let most = arguments::inner::count(bound);
-    let wide = arguments::inner::count(width);
-    let high = arguments::inner::count(height);
-    let run = carry::carry_picture(rows, columns, most, wide, high, results, cells);
-    *carry = run.carry as f64;
-    let answer = Answer {
-        number: run.number,
-        position: run.position,
-    };
-    answers::inner::told(answer, place)
+    let raster = arguments::inner::raster(across, down, bound, width, height);
+    let carried = carry::carry_picture(raster, results, cells);
+    *carry = carried.unwrap_or(0) as f64;
+    answers::inner::told(carried, place)
 }
 
 // Each result over the divisor as a double, by one division.
@@ -302,12 +263,8 @@ pub fn dungdapple_doubles_picture(
 ) -> u32
     ensures { conversion.Gives (meant.doubles_picture (stages_in across.now) (stages_in down.now) (count_of bound) (count_of width) (count_of height) results.now cells.old) (said result place.new 0) cells.new }
 {
-    let rows = arguments::inner::plan(across);
-    let columns = arguments::inner::plan(down);
-    let most = arguments::inner::count(bound);
-    let wide = arguments::inner::count(width);
-    let high = arguments::inner::count(height);
-    let answer = doubles::doubles_picture(rows, columns, most, wide, high, results, cells);
+    let raster = arguments::inner::raster(across, down, bound, width, height);
+    let answer = doubles::doubles_picture(raster, results, cells);
     answers::inner::told(answer, place)
 }
 
@@ -326,16 +283,18 @@ pub fn dungdapple_summary_series(
 {
     let numbers = arguments::inner::plan(plan);
     let most = arguments::inner::count(bound);
-    let found = summary::summary_series(numbers, most, results);
+    let summed = summary::summary_series(numbers, most, results);
+    let found = summed.unwrap_or(Summary {
+        lowest: 0.0,
+        highest: 0.0,
+        lowest_at: 0,
+        highest_at: 0,
+    });
     *lowest = found.lowest;
     *highest = found.highest;
     *lowest_at = found.lowest_at as u32;
     *highest_at = found.highest_at as u32;
-    let answer = Answer {
-        number: found.number,
-        position: found.position,
-    };
-    answers::inner::told(answer, place)
+    answers::inner::told(summed, place)
 }
 
 // The same of a picture, over the product of both divisors.
@@ -354,21 +313,19 @@ pub fn dungdapple_summary_picture(
 ) -> u32
     ensures { record { answer = said result place.new 0; lowest = lowest.new; highest = highest.new; lowest_at = lowest_at.new; highest_at = highest_at.new } ≡ meant.summary_picture (stages_in across.now) (stages_in down.now) (count_of bound) (count_of width) (count_of height) results.now }
 {
-    let rows = arguments::inner::plan(across);
-    let columns = arguments::inner::plan(down);
-    let most = arguments::inner::count(bound);
-    let wide = arguments::inner::count(width);
-    let high = arguments::inner::count(height);
-    let found = summary::summary_picture(rows, columns, most, wide, high, results);
+    let raster = arguments::inner::raster(across, down, bound, width, height);
+    let summed = summary::summary_picture(raster, results);
+    let found = summed.unwrap_or(Summary {
+        lowest: 0.0,
+        highest: 0.0,
+        lowest_at: 0,
+        highest_at: 0,
+    });
     *lowest = found.lowest;
     *highest = found.highest;
     *lowest_at = found.lowest_at as u32;
     *highest_at = found.highest_at as u32;
-    let answer = Answer {
-        number: found.number,
-        position: found.position,
-    };
-    answers::inner::told(answer, place)
+    answers::inner::told(summed, place)
 }
 
 // Each result as the double that is the same number.
@@ -405,15 +362,16 @@ pub fn dungdapple_read_record(
 ) -> u32
     ensures { record { answer = plain result; radius = radius.new; inner = inner.new; edge = edge.new; passes = passes.new; bound = bound.new; start = start.new; size = size.new } ≡ read_record bytes.now }
 {
-    let job = reader::read_record(bytes);
-    *radius = job.radius as u32;
-    *inner = job.inner as u32;
-    *edge = job.edge as u32;
-    *passes = job.passes as u32;
-    *bound = job.bound;
+    let read = reader::read_record(bytes);
+    let job = read.unwrap_or(NO_JOB);
+    *radius = u32::from(job.fields.radius);
+    *inner = u32::from(job.fields.inner);
+    *edge = u32::from(job.fields.edge);
+    *passes = u32::from(job.fields.passes);
+    *bound = job.fields.bound;
     *start = job.start as u32;
     *size = job.size as u32;
-    job.number as u32
+    answers::inner::number(read)
 }
 
 // Every cell gets its sample of such a stretch, 0 where that has none.
@@ -429,18 +387,9 @@ pub fn dungdapple_write_record(plan: &[f64], bound: f64, samples: &[i32], bytes:
 {
     let numbers = arguments::inner::plan(plan);
     let most = arguments::inner::count(bound);
-    let number = arguments::inner::field_refusal(numbers, most);
-    if number != 0 {
-        return number;
-    }
-    let answer = writer::write_record(
-        numbers.radius as u16,
-        numbers.inner as u8,
-        numbers.edge as u8,
-        numbers.passes as u8,
-        most as u32,
-        samples,
-        bytes,
-    );
-    answer.number as u32
+    let written = match arguments::inner::fields(numbers, most) {
+        Ok(fields) => writer::write_record(fields, samples, bytes),
+        Err(refusal) => Err(refusal),
+    };
+    answers::inner::number(written)
 }
