@@ -3,6 +3,7 @@ ghost use Rattle.std.specs.Prelude.{◌≡◌, Bool, true, [], ◌∷◌, ℕ, �
 ghost use Rattle.std.specs.Int.Signed.{non_neg};
 ghost use Rattle.meaning.specs.Limits.{max_bound};
 ghost use Rattle.meaning.specs.Refusals as R;
+ghost use Rattle.meaning.specs.Calls as C;
 ghost use Rattle.theory.specs.Places.{picked};
 ghost use Rattle.plan.specs.Structs.{answer_of};
 ghost use Rattle.refusals.specs.Acceptable.{Acceptable};
@@ -54,4 +55,12 @@ pub fn counted<F: Fn(usize) -> bool>(span: Span, bad: F) -> Result<(), Refusal>
         }
     }
     answer
+}
+
+// Row 11, with the bad samples counted. The answer would be right where none is bad, too: that it asks for one keeps a call from counting where it need not.
+pub(crate) fn tally(bound: u64, samples: &[i32], span: Span) -> Result<(), Refusal>
+    requires { (span.end ≤ length samples.now) × (bound ≤ max_bound → Acceptable bound samples.now span.start span.end → ⊥) }
+    ensures { answer_of result ≡ R.first_of (C.sample_row bound samples.now (R.within span.start span.end) ∷ []) }
+{
+    counted(span, |i: usize| bound < i64::from(samples[i]).unsigned_abs())
 }

@@ -1,9 +1,12 @@
 -- The numbers that were taken, the call, and its answer told.
+use mathlib.Core.Path.{ap, ◌∙◌}
+use Rattle.meaning.specs.Refusals.{Answer}
 use lib.ListN.{length}
 use Rattle.meaning.specs.Refusals.{series_of}
 use Rattle.theory.specs.Narrow.{series_cells, narrow_carried}
 use Rattle.plan.specs.Structs.{stages_of}
 use Rattle.dungdapple.specs.Held.{carry_series_held}
+use Rattle.answers.specs.Untested.{carried_untested}
 use Rattle.dungdapple.specs.Same.{narrow_as}
 use Rattle.dungdapple.proofs.dungdapple_carry_series.Goals as goal
 
@@ -16,4 +19,8 @@ pub told-requires : goal.told-requires
 told-requires c =
     let a = c.args in
     let ss = stages_of c.plan-numbers.result in
-    narrow_as c.carry_series-carried.ensures.answer (narrow_carried (series_of ss (length a.results.now)) (series_cells ss (length a.results.now)) c.count-most.result a.results.now a.cells.now)
+    let e = c.carry_series-carried.ensures.answer in
+    record {
+      narrow = narrow_as e (narrow_carried (series_of ss (length a.results.now)) (series_cells ss (length a.results.now)) c.count-most.result a.results.now a.cells.now);
+      none_bad = ap (λ (x : Answer). x.bad) e ∙ carried_untested (series_of ss (length a.results.now)) c.count-most.result a.results.now a.cells.now;
+    }

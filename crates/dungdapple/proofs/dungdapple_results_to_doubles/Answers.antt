@@ -1,9 +1,16 @@
 -- The call, and its answer told.
+use mathlib.Core.Path.{ap, ◌∙◌}
+use Rattle.meaning.specs.Refusals.{Answer}
 use Rattle.theory.specs.Narrow.{narrow_exact}
+use Rattle.answers.specs.Untested.{exact_untested}
 use Rattle.dungdapple.specs.Same.{narrow_as}
 use Rattle.dungdapple.proofs.dungdapple_results_to_doubles.Goals as goal
 
 pub told-requires : goal.told-requires
 told-requires c =
     let a = c.args in
-    narrow_as c.results_to_doubles-answer.ensures.answer (narrow_exact a.results.now a.cells.now)
+    let e = c.results_to_doubles-answer.ensures.answer in
+    record {
+      narrow = narrow_as e (narrow_exact a.results.now a.cells.now);
+      none_bad = ap (λ (x : Answer). x.bad) e ∙ exact_untested a.results.now a.cells.now;
+    }

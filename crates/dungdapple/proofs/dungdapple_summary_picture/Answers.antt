@@ -1,37 +1,43 @@
 -- The numbers that were taken, the call, and its answer told.
-use mathlib.Core.Path.{ap}
+use mathlib.Core.Path.{ap, ◌∙◌}
+use Rattle.meaning.specs.Refusals.{Answer}
 use native.Mathlib.Omega.{arith}
 use Rattle.meaning.specs.Values.{Summary}
 use Rattle.meaning.specs.Refusals.{picture_of}
 use Rattle.theory.specs.Narrow.{picture_cells_lem, narrow_summary, lowest_most, highest_most}
 use Rattle.plan.specs.Structs.{stages_of}
 use Rattle.dungdapple.specs.Held.{fits_as}
+use Rattle.answers.specs.Untested.{summary_untested}
 use Rattle.dungdapple.specs.Same.{narrow_as}
 use Rattle.dungdapple.proofs.dungdapple_summary_picture.Goals as goal
 
 pub overflow_cast-lowest_at : goal.overflow_cast-lowest_at
 overflow_cast-lowest_at c =
     let a = c.args in
-    let hs = stages_of c.plan-rows.result in
-    let vs = stages_of c.plan-columns.result in
-    let W = c.count-wide.result in
-    let H = c.count-high.result in
-    fits_as (ap (λ (o : Summary). o.lowest_at) c.summary_picture-found.ensures) (lowest_most (picture_of hs vs W H) (picture_cells_lem hs vs W H) c.count-most.result a.results.now) (omega arith)
+    let hs = stages_of c.raster-raster.result.across in
+    let vs = stages_of c.raster-raster.result.down in
+    let W = c.raster-raster.result.width in
+    let H = c.raster-raster.result.height in
+    fits_as (ap (λ (o : Summary). o.lowest_at) c.summary_picture-summed.ensures) (lowest_most (picture_of hs vs W H) (picture_cells_lem hs vs W H) c.raster-raster.result.bound a.results.now) (omega arith)
 
 pub overflow_cast-highest_at : goal.overflow_cast-highest_at
 overflow_cast-highest_at c =
     let a = c.args in
-    let hs = stages_of c.plan-rows.result in
-    let vs = stages_of c.plan-columns.result in
-    let W = c.count-wide.result in
-    let H = c.count-high.result in
-    fits_as (ap (λ (o : Summary). o.highest_at) c.summary_picture-found.ensures) (highest_most (picture_of hs vs W H) (picture_cells_lem hs vs W H) c.count-most.result a.results.now) (omega arith)
+    let hs = stages_of c.raster-raster.result.across in
+    let vs = stages_of c.raster-raster.result.down in
+    let W = c.raster-raster.result.width in
+    let H = c.raster-raster.result.height in
+    fits_as (ap (λ (o : Summary). o.highest_at) c.summary_picture-summed.ensures) (highest_most (picture_of hs vs W H) (picture_cells_lem hs vs W H) c.raster-raster.result.bound a.results.now) (omega arith)
 
 pub told-requires : goal.told-requires
 told-requires c =
     let a = c.args in
-    let hs = stages_of c.plan-rows.result in
-    let vs = stages_of c.plan-columns.result in
-    let W = c.count-wide.result in
-    let H = c.count-high.result in
-    narrow_as (ap (λ (o : Summary). o.answer) c.summary_picture-found.ensures) (narrow_summary (picture_of hs vs W H) (picture_cells_lem hs vs W H) c.count-most.result a.results.now)
+    let hs = stages_of c.raster-raster.result.across in
+    let vs = stages_of c.raster-raster.result.down in
+    let W = c.raster-raster.result.width in
+    let H = c.raster-raster.result.height in
+    let e = ap (λ (o : Summary). o.answer) c.summary_picture-summed.ensures in
+    record {
+      narrow = narrow_as e (narrow_summary (picture_of hs vs W H) (picture_cells_lem hs vs W H) c.raster-raster.result.bound a.results.now);
+      none_bad = ap (λ (x : Answer). x.bad) e ∙ summary_untested (picture_of hs vs W H) c.raster-raster.result.bound a.results.now;
+    }

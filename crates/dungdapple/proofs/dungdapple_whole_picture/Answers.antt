@@ -1,17 +1,25 @@
 -- The numbers that were taken, the call, and its answer told.
+use mathlib.Core.Path.{ap, ◌∙◌}
+use Rattle.meaning.specs.Refusals.{Answer}
+use Rattle.meaning.specs.Values.{mode_rows}
 use Rattle.meaning.specs.Values.{rounded}
 use Rattle.meaning.specs.Refusals.{picture_of}
 use Rattle.theory.specs.Narrow.{picture_cells_lem, narrow_mode}
 use Rattle.plan.specs.Structs.{stages_of}
+use Rattle.answers.specs.Untested.{converted_untested, mode_untested}
 use Rattle.dungdapple.specs.Same.{narrow_as}
 use Rattle.dungdapple.proofs.dungdapple_whole_picture.Goals as goal
 
 pub told-requires : goal.told-requires
 told-requires c =
     let a = c.args in
-    let hs = stages_of c.plan-rows.result in
-    let vs = stages_of c.plan-columns.result in
-    let W = c.count-wide.result in
-    let H = c.count-high.result in
+    let hs = stages_of c.raster-raster.result.across in
+    let vs = stages_of c.raster-raster.result.down in
+    let W = c.raster-raster.result.width in
+    let H = c.raster-raster.result.height in
     let mode = c.count-half.result in
-    narrow_as c.whole_picture_by-answer.ensures.answer (narrow_mode (picture_of hs vs W H) (picture_cells_lem hs vs W H) c.count-most.result a.results.now a.cells.now mode (rounded mode))
+    let e = c.whole_picture_by-answer.ensures.answer in
+    record {
+      narrow = narrow_as e (narrow_mode (picture_of hs vs W H) (picture_cells_lem hs vs W H) c.raster-raster.result.bound a.results.now a.cells.now mode (rounded mode));
+      none_bad = ap (λ (x : Answer). x.bad) e ∙ converted_untested (rounded mode) (picture_of hs vs W H) c.raster-raster.result.bound a.results.now a.cells.now (mode_rows mode) (mode_untested mode);
+    }
