@@ -5,9 +5,10 @@ ghost use Rattle.std.specs.Float.Ieee.{to_signed};
 ghost use Rattle.meaning.specs.Limits.{max_result};
 ghost use Rattle.meaning.specs.Refusals as R;
 ghost use Rattle.meaning.specs.Values as meant;
-ghost use Rattle.plan.specs.Structs.{checked_answer};
+ghost use Rattle.plan.specs.Structs.{answer_of};
 
-use plan::Checked;
+use plan::Refusal;
+use refusals::inner::{Span, counted};
 
 // Is x finite, whole and of size at most the bound? The first two tests are false of a NaN, and leave what an i64 holds.
 pub fn takes(bound: u64, x: f64) -> bool
@@ -21,35 +22,20 @@ pub fn takes(bound: u64, x: f64) -> bool
         return false;
     }
     let whole = std::num::truncating_f64_to_i64(x);
-    if bound < refusals::inner::size(whole) {
+    if bound < whole.unsigned_abs() {
         return false;
     }
     whole as f64 == x
 }
 
-// Row 11, of all doubles. From the last down, as samples are counted.
-pub fn double_refusal(bound: u64, doubles: &[f64]) -> Checked
+// Row 11, of all doubles.
+pub fn doubles_allowed(bound: u64, doubles: &[f64]) -> Result<(), Refusal>
     requires { bound ≤ max_result }
-    ensures { checked_answer result ≡ R.first_of (R.row_at 11 (length doubles.now) (λ i. not (meant.takes bound (slice_index_or doubles.now i nan))) ∷ []) }
+    ensures { answer_of result ≡ R.first_of (R.row_at 11 (length doubles.now) (λ i. not (meant.takes bound (slice_index_or doubles.now i nan))) ∷ []) }
 {
-    let mut answer = Checked {
-        number: 0,
-        position: 0,
-        bad: 0,
-    };
-    let mut i = doubles.len();
-    while i > 0 {
-        i -= 1;
-        if !takes(bound, doubles[i]) {
-            let bad = answer.bad + 1;
-            answer = Checked {
-                number: 11,
-                position: i,
-                bad,
-            };
-        }
-    }
-    answer
+    let start = 0;
+    let end = doubles.len();
+    counted(Span { start, end }, |i: usize| !takes(bound, doubles[i]))
 }
 
 // The whole number that a double is. Minus zero, which no cast takes, is 0.

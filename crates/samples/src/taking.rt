@@ -4,27 +4,21 @@ ghost use Rattle.std.specs.Float.Ieee.{to_signed};
 ghost use Rattle.meaning.specs.Limits.{max_bound};
 ghost use Rattle.meaning.specs.Refusals as R;
 ghost use Rattle.meaning.specs.Values as meant;
-ghost use Rattle.plan.specs.Structs.{checked_answer};
+ghost use Rattle.plan.specs.Structs.{answer_of};
 ghost use Rattle.samples.specs.Taking.{Takable};
 
 use crate::inner;
-use plan::{Checked, Plan};
+use plan::inner::outside;
+use plan::{Plan, Refusal};
 
 // There is no plan, and so no product that could be too large.
-pub(crate) fn refusal(bound: u64, doubles: &[f64], samples: usize) -> Checked
-    ensures { checked_answer result ≡ R.first_of (meant.double_rows bound doubles.now samples) }
+pub(crate) fn allowed(bound: u64, doubles: &[f64], samples: usize) -> Result<(), Refusal>
+    ensures { answer_of result ≡ R.first_of (meant.double_rows bound doubles.now samples) }
 {
     let n = doubles.len();
-    let bad_size = plan::inner::outside(Plan::LEAST, Plan::MAX_LENGTH, n as u64);
-    let number = refusals::inner::size_refusal(bound, 0, bad_size, samples != n);
-    if number != 0 {
-        return Checked {
-            number,
-            position: 0,
-            bad: 0,
-        };
-    }
-    inner::double_refusal(bound, doubles)
+    let bad_size = outside(Plan::LEAST, Plan::MAX_LENGTH, n as u64);
+    refusals::inner::sizes_allowed(bound, 0, bad_size, samples != n)?;
+    inner::doubles_allowed(bound, doubles)
 }
 
 // A double that is accepted is a whole number that an i32 holds.
