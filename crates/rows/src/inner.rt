@@ -7,23 +7,17 @@ ghost use Rattle.plan.specs.Structs.{stages_of};
 ghost use Rattle.rows.specs.Rows.{RowsReady};
 
 use plan::Plan;
+use plan::inner::Sides;
 
 // Smooths each row of the samples into its own stretch of dst. The same stretch of the other slice holds the pass before.
-pub fn smooth_rows(
-    plan: Plan,
-    width: usize,
-    height: usize,
-    samples: &[i32],
-    dst: &mut [i64],
-    other: &mut [i64],
-)
-    requires { RowsReady plan width height samples.now (length dst.old) (length other.old) }
-    ensures { dst.new ≡ P.across (results fold (stages_of plan)) width height samples.now }
+pub fn smooth_rows(plan: Plan, sides: Sides, samples: &[i32], dst: &mut [i64], other: &mut [i64])
+    requires { RowsReady plan sides.width sides.height samples.now (length dst.old) (length other.old) }
+    ensures { dst.new ≡ P.across (results fold (stages_of plan)) sides.width sides.height samples.now }
 {
-    let mut y: usize = 0;
-    while y < height {
-        let start = y * width;
-        let end = start + width;
+    for y in 0..sides.height {
+        // of three slices: chunks zipped twice are no plainer
+        let start = y * sides.width;
+        let end = start + sides.width;
         series::inner::smooth_into(
             plan,
             plan.passes,
@@ -31,6 +25,5 @@ pub fn smooth_rows(
             &mut dst[start..end],
             &mut other[start..end],
         );
-        y += 1;
     }
 }

@@ -5,7 +5,7 @@ ghost use Rattle.meaning.specs.Calls as C;
 ghost use Rattle.plan.specs.Structs.{stages_of, answer_of};
 
 use plan::{Plan, Refusal};
-use refusals::inner::{lengths_differ, samples_allowed, series_allowed, Span};
+use refusals::inner::{Span, lengths_differ, samples_allowed, series_allowed};
 
 pub(crate) fn allowed(
     plan: Plan,
