@@ -62,5 +62,8 @@ pub(crate) fn tally(bound: u64, samples: &[i32], span: Span) -> Result<(), Refus
     requires { (span.end ≤ length samples.now) × (bound ≤ max_bound → Acceptable bound samples.now span.start span.end → ⊥) }
     ensures { answer_of result ≡ R.first_of (C.sample_row bound samples.now (R.within span.start span.end) ∷ []) }
 {
-    counted(span, |i: usize| bound < i64::from(samples[i]).unsigned_abs())
+    counted(
+        span,
+        |i: usize| bound < i64::from(samples[i]).unsigned_abs(),
+    )
 }

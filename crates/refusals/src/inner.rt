@@ -138,10 +138,7 @@ pub fn samples_allowed(bound: u64, samples: &[i32], span: Span) -> Result<(), Re
     if bad::all_acceptable(bound, samples, span) {
         return Ok(());
     }
-    bad::counted(
-        span,
-        |i: usize| bound < i64::from(samples[i]).unsigned_abs(),
-    )
+    bad::tally(bound, samples, span)
 }
 
 // The cells of work that an edit and a point ask, under every plan.
