@@ -4,11 +4,11 @@
 use Rattle.std.specs.Prelude.{ℕ, ◌≤◌, ◌<◌, ◌≡◌}
 use Rattle.std.proofs.Math.Path.{sym}
 use Rattle.std.proofs.Common.{◌∙◌}
-use borrow.Author.Tests.{le-leb, lt-leb, leb-false}
+use borrow.Author.Tests.{le-leb, lt-leb}
 use Rattle.meaning.specs.Refusals.{first_of}
 use Rattle.meaning.specs.Arguments.{PlanNumbers}
 use Rattle.meaning.specs.HostRecord.{field_rows}
-use Rattle.theory.specs.Refusals.{first_on, first_off, off_done, done_off, number_zero}
+use Rattle.theory.specs.Refusals.{first_on, first_off, off_done}
 use Rattle.plan.specs.Structs.{plain}
 use Rattle.record.specs.declared.Fields.{Fields}
 
