@@ -1,8 +1,8 @@
 -- One pass down all columns: each row but the first from the one above it.
 --   Turn s e y v o i   the locals at a cell of row y + 1: v the cell above it, o and i what changes at the edges of the window and within
--- Laws: line_room; change_is, change_fits; above_is, cell_next (one cell of row y + 1 more); stepped_is, stepped_fits;
+-- Laws: line_room; change_is, change_fits; above_is, cell_next (one cell of row y + 1 more); stepped_is, stepped_fits; edges_fit, within_fit, step_fits, row_next (a cell of the next row);
 -- around (where the four rows begin, by walking).
-use Rattle.std.specs.Prelude.{ℕ, suc, ◌+◌, ◌*◌, ◌<◌, ◌≡◌, List, length, take, set, ℤ, pos, ◌+ℤ◌, ◌-ℤ◌, ◌*ℤ◌}
+use Rattle.std.specs.Prelude.{ℕ, suc, ◌+◌, ◌*◌, ◌<◌, ◌≡◌, List, length, take, set, ℤ, pos, ◌-ℤ◌}
 use Rattle.std.proofs.Common.{sym, ◌∙◌, ap, ap₂, add-one, arith, SFits}
 use Rattle.std.specs.Int.{w64}
 use Rattle.meaning.specs.Extension.{at, fold}
@@ -17,7 +17,7 @@ use Rattle.plan.specs.Structs.{stage_of}
 use Rattle.pass.specs.Ready.{Beside}
 use Rattle.pass.specs.Walking.{leaves_at, enters_at}
 use Rattle.pass.specs.Turn.{Roomy, room_step, room_fits}
-use Rattle.columns.specs.Ready.{Passable, passed, line, Begins, Around, stepped}
+use Rattle.columns.specs.Ready.{Passable, passed, line, Begins, Around, StepFits, stepped}
 use Rattle.columns.specs.Adding.{line_size, begins_read}
 
 -- ---- cells
@@ -59,10 +59,34 @@ module _ {s : Stage} {e : ℤ → ℤ} {y : ℕ} {v o i : ℤ} (t : Turn s e y v
   pub stepped_is : stepped s v o i ≡ pass_at s e (pos (y + 1))
   stepped_is = rw (t.above, t.edges, t.within, (on y s.radius).0, (on y s.radius).1, add-one s.radius, add-one y) (sym (pass_at_slide e s (pos y)))
 
-  pub stepped_fits : Roomy s e → SFits w64 (pos s.edge *ℤ o) × (SFits w64 (v +ℤ pos s.edge *ℤ o) × (SFits w64 ((pos s.inner -ℤ pos s.edge) *ℤ i) × SFits w64 (stepped s v o i)))
+  pub stepped_fits : Roomy s e → StepFits s v o i
   stepped_fits h =
       let step = room_step h in
-      rw (stepped_is, t.above, t.edges, t.within) (room_fits (step.outer _ _), (room_fits (step.between _ _ _), (room_fits (step.inside _ _), room_fits (step.written _))))
+      record {
+        outer = rw t.edges (room_fits (step.outer _ _));
+        between = rw (t.above, t.edges) (room_fits (step.between _ _ _));
+        inside = rw t.within (room_fits (step.inside _ _));
+        cell = rw stepped_is (room_fits (step.written _));
+      }
+
+-- ---- cell x of row y + 1, where the rows that leave or enter begin at a, b, c and k
+module _ {p : Plan} {W H : ℕ} {src : List ℤ} {n : ℕ} {y a b c k : ℕ} (h : Passable p W H src n) (m : Around p W H y a b c k) {x : ℕ} (l : x < W) where
+  pub edges_fit : SFits w64 (at src (k + x) -ℤ at src (a + x))
+  edges_fit = change_fits h m.high m.low x
+
+  pub within_fit : SFits w64 (at src (c + x) -ℤ at src (b + x))
+  within_fit = change_fits h m.enters m.leaves x
+
+  module _ (d : List ℤ) (e : take (y * W + W + x) d ≡ take (y * W + W + x) (passed p W H src)) where
+    turn : Turn (stage_of p) (line W H src x) y (at d (y * W + x)) (at src (k + x) -ℤ at src (a + x)) (at src (c + x) -ℤ at src (b + x))
+    turn = record { above = above_is h y l m.below d e; edges = change_is h m.high m.low x; within = change_is h m.enters m.leaves x }
+
+    pub step_fits : StepFits (stage_of p) (at d (y * W + x)) (at src (k + x) -ℤ at src (a + x)) (at src (c + x) -ℤ at src (b + x))
+    step_fits = stepped_fits turn (line_room h x)
+
+    pub row_next : length d ≡ n
+        → take (y * W + W + (x + 1)) (set d (y * W + W + x) (stepped (stage_of p) (at d (y * W + x)) (at src (k + x) -ℤ at src (a + x)) (at src (c + x) -ℤ at src (b + x)))) ≡ take (y * W + W + (x + 1)) (passed p W H src)
+    row_next i = cell_next h y l m.below d e i (stepped_is turn)
 
 -- ---- the rows, by walking
 begins_stands : {W H : ℕ} {z : ℤ} {m i : ℕ} → Stands H z m → Begins W H (pos m) i → Begins W H z i

@@ -1,10 +1,10 @@
 -- The first row of a pass down, from a row of zeros.
 --   lower s e t   the pass of stage s over e around 0, but for the high edge; the cell at the radius stands at t, and at the low edge too
--- Laws: same_room (for as many cells elsewhere), period_fits; periods_none, periods_added (whole periods), rest_added (and the rest), low_added, high_added; first_is, first_written (in its place).
-use Rattle.std.specs.Prelude.{ℕ, ◌+◌, ◌*◌, ◌^◌, ◌≤◌, ◌<◌, ◌≡◌, refl, List, [], ◌++◌, length, take, ℤ, ◌+ℤ◌, ◌*ℤ◌}
+-- Laws: same_room (for as many cells elsewhere), period_fits; cleared (the row of zeros), weight_fits (of whole periods), periods_none, periods_added (whole periods), rest_added (and the rest), low_added, high_added; first_is, first_written (in its place).
+use Rattle.std.specs.Prelude.{ℕ, ◌+◌, ◌*◌, ◌^◌, ◌≤◌, ◌<◌, ◌≡◌, refl, List, [], ◌++◌, length, replicate, take, ℤ, ◌+ℤ◌, ◌*ℤ◌}
 use Rattle.std.proofs.Math.Path.{sym, ap}
-use Rattle.std.proofs.Common.{◌∙◌, zero-mul, le-mul_of_pos_right, arith}
-use Rattle.std.proofs.Math.Nat.{mul-le-mul_right}
+use Rattle.std.proofs.Common.{◌∙◌, zero-mul, le_trans, le-mul_of_pos_right, arith}
+use Rattle.std.proofs.Math.Nat.{mul-le-mul, mul-le-mul_right}
 use Rattle.std.proofs.Math.IntN.{pos, +ℤ_idl, *ℤ-zero}
 use Rattle.algebra.specs.Ring.{*ℤ-assoc, *ℤ-+ℤ}
 use Rattle.algebra.specs.Size.{Abs, abs_self, abs-+, abs-*}
@@ -12,7 +12,7 @@ use Rattle.meaning.specs.Extension.{fold}
 use Rattle.meaning.specs.Kernel.{Stage, tap_sum, pass_at}
 use Rattle.meaning.specs.Smoothing.{list_of, pass}
 use Rattle.meaning.specs.Picture as P
-use Rattle.theory.specs.Lists.{list_of_ext}
+use Rattle.theory.specs.Lists.{list_of_ext, list_of_const}
 use Rattle.theory.specs.Fill.{fill_part}
 use Rattle.theory.specs.Walk.{Stands, stands_periods, stands_next}
 use Rattle.theory.specs.Period.{up_to, up_to_none, up_to_size, up_to_periods, up_to_whole, Repeats, pass_at_mirrored, ext_mirrored}
@@ -47,6 +47,14 @@ module _ (s : Stage) {p : ℕ} {e : ℤ → ℤ} (h : Repeats p e) where
   sides_rest : (q t : ℕ) → sides s e (q * p) +ℤ pos (2 * s.inner) *ℤ up_to e t ≡ sides s e (q * p + t)
   unfolding sides
   sides_rest q t = sym (*ℤ-+ℤ (pos (2 * s.inner)) (up_to e (q * p)) (up_to e t)) ∙ rw (up_to_periods h q t, up_to_whole h q)
+
+pub cleared : {W : ℕ} (row : List ℤ) → length row ≡ W → {new : List ℤ} → new ≡ replicate (length row) (pos 0) → new ≡ list_of W (λ x. pos 0)
+cleared row l e = e ∙ ap (λ n. replicate n (pos 0)) l ∙ sym (list_of_const _ (pos 0))
+
+pub weight_fits : {p : Plan} {W H : ℕ} {src : List ℤ} {n : ℕ} → Passable p W H src n → (q : ℕ) → q * (2 * H) ≤ p.radius → 2 * p.inner * q < 2 ^ 63
+weight_fits {H} h q l =
+    let tall : 0 < 2 * H = omega (arith, h.tall) in
+    omega (arith, h.plan.radius, mul-le-mul h.plan.inner.1 (le_trans (le-mul_of_pos_right q tall) l))
 
 module _ {p : Plan} {W H : ℕ} {src : List ℤ} {n : ℕ} (h : Passable p W H src n) {row : List ℤ} where
   pub periods_none : row ≡ list_of W (λ x. pos 0) → {q : ℕ} → q ≡ 0 → row ≡ row_of W H src (λ e. sides (stage_of p) e (q * (2 * H)))

@@ -11,6 +11,7 @@
 --   Begins W H z i           the row that the extension has at z begins at i, and ends within the picture
 --   Around p W H y a b c d   there is a row y + 1; at a, b, c and d begin the rows that leave or enter on the way to it from row y
 --   stepped s v o i          a cell of the pass from v, the one above it, where the edges of the window change by o and what lies within by i
+--   StepFits s v o i         every number on the way to that fits
 use Rattle.std.specs.Prelude.{ℕ, ◌+◌, ◌*◌, ◌≤◌, ◌<◌, ◌≡◌, List, length, ℤ, pos, ◌+ℤ◌, ◌-ℤ◌, ◌*ℤ◌}
 use Rattle.std.specs.Int.{w64}
 use Rattle.std.proofs.Common.{SFits}
@@ -87,3 +88,9 @@ pub record Around (p : Plan) (W H y a b c d : ℕ) : Type 0 where
 
 abbrev pub stepped : Stage → ℤ → ℤ → ℤ → ℤ
 stepped s v o i = v +ℤ pos s.edge *ℤ o +ℤ (pos s.inner -ℤ pos s.edge) *ℤ i
+
+pub record StepFits (s : Stage) (v o i : ℤ) : Type 0 where
+  pub outer : SFits w64 (pos s.edge *ℤ o)
+  pub between : SFits w64 (v +ℤ pos s.edge *ℤ o)
+  pub inside : SFits w64 ((pos s.inner -ℤ pos s.edge) *ℤ i)
+  pub cell : SFits w64 (stepped s v o i)

@@ -4,19 +4,20 @@ ghost use Rattle.meaning.specs.Limits.{max_length};
 ghost use Rattle.meaning.specs.Smoothing.{list_of};
 ghost use Rattle.meaning.specs.Picture as P;
 ghost use Rattle.plan.specs.Structs.{stage_of};
-ghost use Rattle.columns.specs.Ready.{Addable, added, Begins, Passable, passed, row_of, RowsAddable, rows_added, sides};
+ghost use Rattle.columns.specs.Ready.{Addable, added, Begins, Passable, passed, row_of, RowsAddable, rows_added, sides as both_sides};
 
-use extension::inner::{next, reflect};
+use extension::inner::{Periods, next, reflect};
 use plan::Plan;
+use plan::inner::Sides;
 
 // Where the row begins that stands at a place of the extension.
-pub(crate) fn row_at(place: usize, width: usize, height: usize) -> usize
-    requires le_width { 1 ≤ width }
-    requires place_bound { place < 2 * height }
-    requires height_bound { width * height ≤ max_length }
-    ensures { Begins width height (pos place) result }
+pub(crate) fn row_at(place: usize, sides: Sides) -> usize
+    requires le_width { 1 ≤ sides.width }
+    requires place_bound { place < 2 * sides.height }
+    requires height_bound { sides.width * sides.height ≤ max_length }
+    ensures { Begins sides.width sides.height (pos place) result }
 {
-    reflect(place, height) * width
+    reflect(place, sides.height) * sides.width
 }
 
 // Adds to each cell of row its weighted cell of the row of src that begins at start.
@@ -24,74 +25,49 @@ fn add_row(weight: i64, src: &[i64], start: usize, row: &mut [i64])
     requires { Addable weight src.now start row.old }
     ensures { row.new ≡ list_of (length row.old) (added weight src.now start row.old) }
 {
-    let mut x: usize = 0;
-    while x < row.len() {
-        let v = row[x] + weight * src[start + x];
-        row[x] = v;
-        x += 1;
+    for (x, cell) in row.iter_mut().enumerate() {
+        *cell += weight * src[start + x];
     }
 }
 
 // Adds so many rows, those at the places from 0 on, each times the weight.
-fn add_rows(weight: i64, width: usize, height: usize, count: usize, src: &[i64], row: &mut [i64])
-    requires { RowsAddable weight width height count src.now row.old }
-    ensures { row.new ≡ list_of width (rows_added weight width height count src.now row.old) }
+fn add_rows(weight: i64, count: usize, sides: Sides, src: &[i64], row: &mut [i64])
+    requires { RowsAddable weight sides.width sides.height count src.now row.old }
+    ensures { row.new ≡ list_of sides.width (rows_added weight sides.width sides.height count src.now row.old) }
 {
-    let mut k: usize = 0;
-    while k < count {
-        let start = row_at(k, width, height);
-        add_row(weight, src, start, row);
-        k += 1;
+    for k in 0..count {
+        add_row(weight, src, row_at(k, sides), row);
     }
 }
 
 // Whole periods of rows on either side of row 0, weighed: one period, so many times.
-fn whole_periods(
-    plan: Plan,
-    periods: usize,
-    width: usize,
-    height: usize,
-    src: &[i64],
-    row: &mut [i64],
-)
-    requires passable { Passable plan width height src.now (width * height) }
-    requires row_len { length row.old ≡ width }
-    requires height_bound { periods * (2 * height) ≤ plan.radius }
-    ensures { row.new ≡ row_of width height src.now (λ e. sides (stage_of plan) e (periods * (2 * height))) }
+fn whole_periods(plan: Plan, periods: usize, sides: Sides, src: &[i64], row: &mut [i64])
+    requires passable { Passable plan sides.width sides.height src.now (sides.width * sides.height) }
+    requires row_len { length row.old ≡ sides.width }
+    requires height_bound { periods * (2 * sides.height) ≤ plan.radius }
+    ensures { row.new ≡ row_of sides.width sides.height src.now (λ e. both_sides (stage_of plan) e (periods * (2 * sides.height))) }
 {
-    pass::inner::clear(row);
+    row.fill(0);
     if periods == 0 {
         return;
     }
     let weight = (2 * plan.inner * (periods as u64)) as i64;
-    add_rows(weight, width, height, 2 * height, src, row);
+    add_rows(weight, 2 * sides.height, sides, src, row);
 }
 
 // Row 0 of the pass, whose radius is so many whole periods and a rest. What stands at -1 - j stands at j. So the rows from 0 up to the radius count
 // twice within the window; the row at the radius once, and at the low edge; the next at the high edge.
-pub(crate) fn first_row(
-    plan: Plan,
-    whole: usize,
-    rest: usize,
-    width: usize,
-    height: usize,
-    src: &[i64],
-    row: &mut [i64],
-)
-    requires passable { Passable plan width height src.now (width * height) }
-    requires row_len { length row.old ≡ width }
-    requires radius_value { plan.radius ≡ whole * (2 * height) + rest }
-    requires rest_bound { rest < 2 * height }
-    ensures { row.new ≡ P.row width (passed plan width height src.now) 0 }
+pub(crate) fn first_row(plan: Plan, radius: Periods, sides: Sides, src: &[i64], row: &mut [i64])
+    requires passable { Passable plan sides.width sides.height src.now (sides.width * sides.height) }
+    requires row_len { length row.old ≡ sides.width }
+    requires radius_value { plan.radius ≡ radius.whole * (2 * sides.height) + radius.rest }
+    requires rest_bound { radius.rest < 2 * sides.height }
+    ensures { row.new ≡ P.row sides.width (passed plan sides.width sides.height src.now) 0 }
 {
-    whole_periods(plan, whole, width, height, src, row);
-    add_rows((2 * plan.inner) as i64, width, height, rest, src, row);
-    add_row(
-        (plan.inner + plan.edge) as i64,
-        src,
-        row_at(rest, width, height),
-        row,
-    );
-    let beyond = next(rest, height);
-    add_row(plan.edge as i64, src, row_at(beyond, width, height), row);
+    whole_periods(plan, radius.whole, sides, src, row);
+    add_rows((2 * plan.inner) as i64, radius.rest, sides, src, row);
+    let low = row_at(radius.rest, sides);
+    add_row((plan.inner + plan.edge) as i64, src, low, row);
+    let high = row_at(next(radius.rest, sides.height), sides);
+    add_row(plan.edge as i64, src, high, row);
 }

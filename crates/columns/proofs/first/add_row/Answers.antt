@@ -1,42 +1,32 @@
 -- Before turn x the first x cells are added to, the others as they were.
-use Prim.Native.Nat.{◌+◌}
-use mathlib.Core.Path.{◌≡◌, ◌∙◌, sym}
+use mathlib.Core.Path.{sym}
 use native.Mathlib.Omega.{arith}
-use lib.IntN.{◌+ℤ◌, ◌*ℤ◌}
-use mir.Syntax.{w64}
-use mir.Val.{to_z, of_z}
-use mir.Facts.{to_z-of_z}
-use borrow.Author.Rules.{rules, sfits_of}
-use Rattle.meaning.specs.Extension.{at}
+use Rattle.std.proofs.lemmas.Int.{to_z-of_z}
 use Rattle.theory.specs.Lists.{length_list_of, at_list_of}
 use Rattle.theory.specs.Fill.{filled_next, filled_done}
 use Rattle.columns.specs.Ready.{added}
 use Rattle.columns.proofs.first.add_row.Goals as goal
-use Rattle.columns.proofs.first.add_row.Goals.{After-v-in-loop-x-1}
 
-pub overflow_mul-v : goal.overflow_mul-v
-overflow_mul-v c =
-    rw (to_z-of_z c.ranges.weight, to_z-of_z {w = w64} (sfits_of c.v-in-loop-x-1.given)) (c.requires.weighed _ (search rules))
-
-sum_is : (c : After-v-in-loop-x-1) →
-    let a = c.args in
-    let l = c.loop-x in
-    to_z w64 (of_z w64 (at l.row l.x)) +ℤ to_z w64 (of_z w64 (to_z w64 (of_z w64 a.weight) *ℤ to_z w64 (of_z w64 (at a.src.now (a.start + l.x)))))
-    ≡ added a.weight a.src.now a.start a.row.now l.x
+pub overflow_add-cell-in-loop-x : goal.overflow_add-cell-in-loop-x
 unfolding added
-sum_is c =
-    let l = c.loop-x in
-    rw (to_z-of_z {w = w64} (overflow_mul-v c), to_z-of_z c.ranges.weight, to_z-of_z {w = w64} (sfits_of {z = at l.row l.x} c.v-1.given), l.invariant.1.rest l.x (omega arith), to_z-of_z {w = w64} (sfits_of c.v-in-loop-x-1.given))
-
-pub overflow_add-v-in-loop-x : goal.overflow_add-v-in-loop-x
-overflow_add-v-in-loop-x c = rw (sum_is (goal.at.overflow_add-v-in-loop-x c).After-v-in-loop-x-1) (c.requires.fits _ (search rules))
+overflow_add-cell-in-loop-x c =
+    let x = c.loop-x.x in
+    let w = c.requires.weighed x (omega arith) in
+    let f = c.requires.fits x (omega arith) in
+    let r = c.loop-x.invariant.rest x (omega arith) in
+    grind (arith, to_z-of_z)
 
 pub loop-x-preserved : goal.loop-x-preserved
+unfolding added
 loop-x-preserved c =
-    let l = c.loop-x in
-    (omega arith, filled_next l.invariant.1 (omega arith) (to_z-of_z {w = w64} (overflow_add-v-in-loop-x c) ∙ sum_is (goal.at.loop-x-preserved c).After-v-in-loop-x-1 ∙ rw (to_z-of_z c.ranges.weight) (sym (at_list_of _ _ l.x (omega arith)))))
+    let x = c.loop-x.x in
+    let w = c.requires.weighed x (omega arith) in
+    let f = c.requires.fits x (omega arith) in
+    let r = c.loop-x.invariant.rest x (omega arith) in
+    let n = filled_next c.loop-x.invariant (omega arith) (sym (at_list_of _ _ x (omega arith))) in
+    grind (arith, to_z-of_z)
 
 pub returns : goal.returns
 returns c =
-    let w = to_z-of_z c.ranges.weight in
-    filled_done (rw w at c.loop-x.invariant.1) (length_list_of _ _) (λ i l m. absurd (omega arith))
+    let n = filled_done c.loop-x.invariant (length_list_of _ _) (λ i l m. absurd (omega arith)) in
+    grind (arith, to_z-of_z)

@@ -1,5 +1,4 @@
 -- Before turn x the first x cells are added to, the others as they were.
-use Prim.Native.Nat.{◌-◌, ◌≤◌}
 use lib.ListN.{length}
 use Rattle.meaning.specs.Smoothing.{list_of}
 use Rattle.theory.specs.Fill.{Filled}
@@ -7,7 +6,4 @@ use Rattle.columns.specs.Ready.{added}
 use Rattle.columns.proofs.first.add_row.Given as goal
 
 abbrev pub invariant-loop-x : goal.invariant-loop-x
-invariant-loop-x l = (l.x ≤ length l.initial.row) × Filled (list_of (length l.initial.row) (added l.weight l.src l.start l.initial.row)) l.initial.row l.row l.x
-
-abbrev pub decreases-loop-x : goal.decreases-loop-x
-decreases-loop-x l = length l.initial.row - l.x
+invariant-loop-x l = Filled (list_of (length l.initial.row) (added l.weight l.src l.start l.initial.row)) l.initial.row l.row l.x
