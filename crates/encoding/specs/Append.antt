@@ -3,9 +3,9 @@
 --   Wrote old xs new             a cursor goes on from old to new: it writes xs, and the rest of its slice stays
 --   Room c xs                    it has room for xs
 --   Appended old at xs new end   new is old up to at, then xs, and end is the place behind it; what stands from there on is not said
--- Laws: append_none, append_then (one stretch behind the other); room_first, room_rest (of what is put as two stretches).
+-- Laws: append_none, append_then (one stretch behind the other), append_all (where nothing is left); room_first, room_rest (of what is put as two stretches).
 use Rattle.std.specs.Prelude.{◌≡◌, refl, List, [], ◌++◌, ℕ, ◌+◌, ◌≤◌, length, take, drop}
-use Rattle.std.proofs.Common.{sym, ◌∙◌, ap, append_assoc, append-nil, arith, length-append, length-drop, drop-drop}
+use Rattle.std.proofs.Common.{sym, ◌∙◌, ap, append_assoc, append-nil, arith, length-append, length-drop, drop-drop, take-append-drop, drop_of_length-le}
 use Rattle.encoding.specs.declared.inner.cursor.Cursor.{Cursor}
 
 abbrev pub written : Cursor → List ℕ
@@ -35,6 +35,11 @@ append_then {a} {b} {c} {xs} {ys} i p q = rw i (record {
   rest = q.rest ∙ ap (drop (length ys)) p.rest ∙ drop-drop (length ys) (length xs) (rest a) ∙ ap (λ n. drop n (rest a)) (sym (length-append xs ys));
   slice = q.slice ∙ p.slice;
 })
+
+pub append_all : {a c : Cursor} {xs : List ℕ} → Wrote a xs c → written a ≡ [] → length (rest a) ≡ length xs → c.out.now ≡ xs
+append_all {a} {c} {xs} p e h =
+    let none : rest c ≡ [] = p.rest ∙ drop_of_length-le (rest a) {i = length xs} (omega arith) in
+    sym (take-append-drop c.at c.out.now) ∙ ap (λ l. written c ++ l) none ∙ append-nil (written c) ∙ p.written ∙ ap (λ l. l ++ xs) e
 
 pub room_first : (xs ys : List ℕ) {zs : List ℕ} {c : Cursor} → zs ≡ xs ++ ys → Room c zs → Room c xs
 room_first xs ys i h = record { room = omega (arith, length-append xs ys, ap length i, h.room) }

@@ -1,83 +1,73 @@
 // The fields of a record, put one behind the other.
-ghost use Rattle.std.specs.Prelude.{◌≡◌, length};
+ghost use Rattle.std.specs.Prelude.{◌≡◌, ◌≤◌, ◌<◌, ◌^◌, length};
+ghost use Rattle.meaning.specs.Limits.{max_samples};
 ghost use Rattle.meaning.specs.Refusals.{first_of};
-ghost use Rattle.meaning.specs.Encoding as E;
 ghost use Rattle.meaning.specs.Record as M;
-ghost use Rattle.plan.specs.Structs.{plain};
-ghost use Rattle.encoding.specs.Append.{Appended, Room};
-ghost use Rattle.writer.specs.Writing.{head};
+ghost use Rattle.plan.specs.Structs.{answer_of};
+ghost use Rattle.encoding.specs.Append.{Wrote, Room};
 
-use record::Job;
+use encoding::inner::cursor::Cursor;
+use plan::Refusal;
+use record::{Fields, Job};
 
 // Rows 7 and 8, of so many samples and a slice of so many bytes.
-pub(crate) fn refusal(samples: usize, room: usize) -> u64
-    ensures { plain result ≡ first_of (M.write_rows samples room (M.record_size samples)) }
+pub(crate) fn allowed(samples: usize, room: usize) -> Result<(), Refusal>
+    ensures { answer_of result ≡ first_of (M.write_rows samples room (M.record_size samples)) }
 {
     if plan::inner::outside(1, Job::MAX_SAMPLES, samples as u64) {
-        return 7;
+        return Err(Refusal::Size);
     }
     if room != 27 + 4 * samples {
-        return 8;
+        return Err(Refusal::Length);
     }
-    0
+    Ok(())
 }
 
-// What stands before a field's value: its tag, and how many bytes it is.
-fn put_head(bytes: &mut [u8], at: usize, tag: u8, size: u64) -> usize
-    requires { Room at (head tag size) bytes.old }
-    ensures { Appended bytes.old at (head tag size) bytes.new result }
+fn put_field(out: &mut Cursor, tag: u8, value: &[u8])
+    requires { Room out.old (M.field tag value.now) × (length value.now < 2 ^ 16) }
+    ensures { Wrote out.old (M.field tag value.now) out.new }
 {
-    let length = encoding::inner::put_byte(bytes, at, tag);
-    encoding::inner::put_number(bytes, length, 2, size)
+    out.put_byte(tag);
+    out.put_u16(value.len() as u16);
+    out.put_bytes(value);
 }
 
-// A field with a number of n bytes.
-pub(crate) fn put_field(bytes: &mut [u8], at: usize, tag: u8, n: usize, value: u64) -> usize
-    requires { Room at (M.field tag (E.bytes n value)) bytes.old }
-    ensures { Appended bytes.old at (M.field tag (E.bytes n value)) bytes.new result }
+fn put_values(out: &mut Cursor, samples: &[i32])
+    requires { Room out.old (M.sample_bytes samples.now) }
+    ensures { Wrote out.old (M.sample_bytes samples.now) out.new }
 {
-    let start = put_head(bytes, at, tag, n as u64);
-    encoding::inner::put_number(bytes, start, n, value)
-}
-
-fn put_values(bytes: &mut [u8], at: usize, samples: &[i32]) -> usize
-    requires { Room at (M.sample_bytes samples.now) bytes.old }
-    ensures { Appended bytes.old at (M.sample_bytes samples.now) bytes.new result }
-{
-    let mut end = at;
-    for i in 0..samples.len() {
-        let bits = encoding::inner::unsigned(samples[i]);
-        end = encoding::inner::put_number(bytes, end, 4, bits as u64);
+    for &sample in samples {
+        out.put_bytes(&sample.to_be_bytes());
     }
-    end
 }
 
 // The field with the samples.
-pub(crate) fn put_samples(bytes: &mut [u8], at: usize, samples: &[i32]) -> usize
-    requires { Room at (M.field 6 (M.sample_bytes samples.now)) bytes.old }
-    ensures { Appended bytes.old at (M.field 6 (M.sample_bytes samples.now)) bytes.new result }
+fn put_samples(out: &mut Cursor, samples: &[i32])
+    requires { Room out.old (M.field 6 (M.sample_bytes samples.now)) × (length samples.now ≤ max_samples) }
+    ensures { Wrote out.old (M.field 6 (M.sample_bytes samples.now)) out.new }
 {
-    let start = put_head(bytes, at, 6, 4 * samples.len() as u64);
-    put_values(bytes, start, samples)
+    out.put_byte(6);
+    out.put_u16(4 * samples.len() as u16);
+    put_values(out, samples);
 }
 
-// The whole record, into a slice of its length.
-pub(crate) fn put_record(
-    radius: u16,
-    inner: u8,
-    edge: u8,
-    passes: u8,
-    bound: u32,
-    samples: &[i32],
-    bytes: &mut [u8],
-)
-    requires { length bytes.old ≡ M.record_size (length samples.now) }
-    ensures { bytes.new ≡ M.record_of radius inner edge passes bound samples.now }
+// The whole record.
+fn put_fields(out: &mut Cursor, fields: Fields, samples: &[i32])
+    requires { Room out.old (M.record_of fields.radius fields.inner fields.edge fields.passes fields.bound samples.now) × (length samples.now ≤ max_samples) }
+    ensures { Wrote out.old (M.record_of fields.radius fields.inner fields.edge fields.passes fields.bound samples.now) out.new }
 {
-    let at = put_field(bytes, 0, 1, 2, radius as u64);
-    let at = put_field(bytes, at, 2, 1, inner as u64);
-    let at = put_field(bytes, at, 3, 1, edge as u64);
-    let at = put_field(bytes, at, 4, 1, passes as u64);
-    let at = put_field(bytes, at, 5, 4, bound as u64);
-    put_samples(bytes, at, samples);
+    put_field(out, 1, &fields.radius.to_be_bytes());
+    put_field(out, 2, &[fields.inner]);
+    put_field(out, 3, &[fields.edge]);
+    put_field(out, 4, &[fields.passes]);
+    put_field(out, 5, &fields.bound.to_be_bytes());
+    put_samples(out, samples);
+}
+
+// The same, into a slice of its length.
+pub(crate) fn put_record(fields: Fields, samples: &[i32], bytes: &mut [u8])
+    requires { (length bytes.old ≡ M.record_size (length samples.now)) × (length samples.now ≤ max_samples) }
+    ensures { bytes.new ≡ M.record_of fields.radius fields.inner fields.edge fields.passes fields.bound samples.now }
+{
+    put_fields(&mut Cursor::new(bytes), fields, samples);
 }

@@ -1,24 +1,22 @@
--- The head, then the value.
-use mathlib.Core.Path.{◌≡◌}
-use mathlib.Core.List.{◌++◌}
+-- The tag and the length, then the value.
+use Rattle.std.proofs.Common.{refl, [], ◌∷◌, length}
 use Rattle.meaning.specs.Encoding.{bytes}
-use Rattle.meaning.specs.Record.{field}
-use Rattle.theory.specs.Encoding.{length_bytes}
+use Rattle.meaning.specs.Record as M
 use Rattle.encoding.specs.Append.{append_then, room_first, room_rest}
-use Rattle.writer.specs.Writing.{head, field_head}
 use Rattle.writer.proofs.writing.put_field.Goals as goal
-use Rattle.writer.proofs.writing.put_field.Goals.{Start}
 
-whole : (c : Start) → let a = c.args in field a.tag (bytes a.n a.value) ≡ head a.tag a.n ++ bytes a.n a.value
-whole c = field_head c.args.tag (bytes c.args.n c.args.value) (length_bytes c.args.n c.args.value)
+pub put_byte-requires : goal.put_byte-requires
+unfolding M.field
+put_byte-requires c = let v = c.args.value.now in room_first (c.args.tag ∷ []) (bytes 2 (length v)) refl (room_first _ v refl c.requires.0)
 
-pub put_head-start-requires : goal.put_head-start-requires
-put_head-start-requires c = room_first _ _ (whole (goal.at.put_head-start-requires c).Start) c.requires
+pub put_u16-requires : goal.put_u16-requires
+unfolding M.field
+put_u16-requires c = room_rest _ refl (room_first (c.args.tag ∷ bytes 2 (length c.args.value.now)) c.args.value.now refl c.requires.0) c.put_byte.ensures
 
-pub put_number-requires : goal.put_number-requires
-put_number-requires c =
-    room_rest _ (whole (goal.at.put_number-requires c).Start) c.requires c.put_head-start.ensures c.put_head-start.auto.bytes
+pub put_bytes-requires : goal.put_bytes-requires
+unfolding M.field
+put_bytes-requires c = room_rest _ refl c.requires.0 (append_then refl c.put_byte.ensures c.put_u16.ensures)
 
 pub returns : goal.returns
-returns c =
-    append_then (whole (goal.at.returns c).Start) c.put_head-start.ensures c.put_number.ensures
+unfolding M.field
+returns c = append_then refl (append_then refl c.put_byte.ensures c.put_u16.ensures) c.put_bytes.ensures

@@ -1,25 +1,23 @@
--- The head, then the samples.
-use mathlib.Core.Path.{◌≡◌}
-use mathlib.Core.List.{◌++◌}
-use Prim.Native.Nat.{◌*◌}
-use lib.ListN.{length}
-use Rattle.meaning.specs.Record.{field, sample_bytes}
+-- The tag and the length, then the samples.
+use Rattle.std.proofs.Common.{◌≡◌, refl, ap, [], ◌∷◌, ◌++◌, ◌*◌, ℤ, List, length}
+use Rattle.meaning.specs.Encoding.{bytes}
+use Rattle.meaning.specs.Record as M
 use Rattle.theory.specs.Records.{length_sample_bytes}
 use Rattle.encoding.specs.Append.{append_then, room_first, room_rest}
-use Rattle.writer.specs.Writing.{head, field_head}
 use Rattle.writer.proofs.writing.put_samples.Goals as goal
-use Rattle.writer.proofs.writing.put_samples.Goals.{Start}
 
-whole : (c : Start) → let f = c.args.samples.now in field 6 (sample_bytes f) ≡ head 6 (4 * length f) ++ sample_bytes f
-whole c = field_head 6 (sample_bytes c.args.samples.now) (length_sample_bytes c.args.samples.now)
+whole : (f : List ℤ) → M.field 6 (M.sample_bytes f) ≡ (6 ∷ []) ++ bytes 2 (4 * length f) ++ M.sample_bytes f
+unfolding M.field
+whole f = ap (λ n. 6 ∷ bytes 2 n ++ M.sample_bytes f) (length_sample_bytes f)
 
-pub put_head-start-requires : goal.put_head-start-requires
-put_head-start-requires c = room_first _ _ (whole (goal.at.put_head-start-requires c).Start) c.requires
+pub put_byte-requires : goal.put_byte-requires
+put_byte-requires c = let f = c.args.samples.now in room_first (6 ∷ []) (bytes 2 (4 * length f)) refl (room_first _ (M.sample_bytes f) (whole f) c.requires.0)
+
+pub put_u16-requires : goal.put_u16-requires
+put_u16-requires c = room_rest _ refl (room_first _ _ (whole c.args.samples.now) c.requires.0) c.put_byte.ensures
 
 pub put_values-requires : goal.put_values-requires
-put_values-requires c =
-    room_rest _ (whole (goal.at.put_values-requires c).Start) c.requires c.put_head-start.ensures c.put_head-start.auto.bytes
+put_values-requires c = room_rest _ (whole c.args.samples.now) c.requires.0 (append_then refl c.put_byte.ensures c.put_u16.ensures)
 
 pub returns : goal.returns
-returns c =
-    append_then (whole (goal.at.returns c).Start) c.put_head-start.ensures c.put_values.ensures
+returns c = append_then (whole c.args.samples.now) (append_then refl c.put_byte.ensures c.put_u16.ensures) c.put_values.ensures

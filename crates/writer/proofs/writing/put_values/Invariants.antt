@@ -1,13 +1,8 @@
 -- What was put so far is the bytes of the samples passed.
-use mathlib.Core.Path.{◌≡◌}
-use Prim.Native.Nat.{◌-◌, ◌≤◌}
-use lib.ListN.{length, take}
+use Rattle.std.proofs.Common.{take}
 use Rattle.meaning.specs.Record.{sample_bytes}
-use Rattle.encoding.specs.Append.{Appended}
+use Rattle.encoding.specs.Append.{Wrote}
 use Rattle.writer.proofs.writing.put_values.Given as goal
 
-abbrev pub invariant-loop-i : goal.invariant-loop-i
-invariant-loop-i l = (l.i ≤ length l.samples) × (length l.bytes ≡ length l.initial.bytes) × Appended l.initial.bytes l.at (sample_bytes (take l.i l.samples)) l.bytes l.end
-
-abbrev pub decreases-loop-i : goal.decreases-loop-i
-decreases-loop-i l = length l.samples - l.i
+abbrev pub invariant-loop-sample : goal.invariant-loop-sample
+invariant-loop-sample l = Wrote l.initial.out (sample_bytes (take l.sample-index l.samples)) l.out

@@ -1,14 +1,7 @@
 -- Row by row.
-use mathlib.Core.Path.{refl, sym, ◌∙◌}
-use Prim.Native.Nat.{◌≤◌}
-use borrow.Author.Tests.{eq-eqb, ne_eqb}
+use Rattle.std.proofs.Common.{refl, sym, ◌∙◌, ne_eqb, eq-eqb}
 use Rattle.meaning.specs.Refusals as R
-use Rattle.theory.specs.Tests.{outside_no}
-use Rattle.writer.proofs.writing.refusal.Goals as goal
-use Rattle.writer.proofs.writing.refusal.Goals.{Else-outside}
-
-few : (c : Else-outside) → c.args.samples ≤ 1024
-few c = (outside_no 1 1024 c.args.samples (sym c.outside.ensures ∙ c.if-outside.false)).1
+use Rattle.writer.proofs.writing.allowed.Goals as goal
 
 pub returns-then-outside : goal.returns-then-outside
 unfolding R.first_of
