@@ -1,12 +1,12 @@
 -- The steps of smoothing a picture, each over plain lists.
--- Laws: ready (what an answer of 0 leaves), swapped; rows_ready (each row has room), passable (each pass down has room); after_none, after_next.
-use Rattle.std.specs.Prelude.{ℕ, suc, ◌*◌, ◌<◌, ◌≡◌, List, length, replicate, ℤ}
+-- Laws: ready (what a test that refuses nothing leaves), swapped; rows_ready (each row has room), passable (each pass down has room); after_none, after_next.
+use Rattle.std.specs.Prelude.{ℕ, suc, ◌*◌, ◌<◌, ◌≡◌, refl, List, length, replicate, ℤ}
 use Rattle.std.proofs.Common.{sym, ◌∙◌, ap, le_trans, le-mul_of_pos_right, mul-le-mul_left, mul_assoc, arith}
 use Rattle.meaning.specs.Extension.{fold}
 use Rattle.meaning.specs.Kernel.{divisor}
 use Rattle.meaning.specs.Smoothing.{results, pass}
 use Rattle.meaning.specs.Picture.{across, down}
-use Rattle.meaning.specs.Refusals.{Answer, first_of, picture_of}
+use Rattle.meaning.specs.Refusals.{first_of, picture_of}
 use Rattle.meaning.specs.Calls.{smooth_rows}
 use Rattle.theory.specs.Refusals.{number_zero}
 use Rattle.theory.specs.HalfSample.{half_sample}
@@ -17,15 +17,15 @@ use Rattle.theory.specs.Picture.{length_across, length_down, across_size, down_s
 use Rattle.theory.specs.Accepted.{divisor_allowed}
 use Rattle.theory.specs.AcceptedSmoothings.{picture_allowed}
 use Rattle.plan.specs.declared.Plan.{Plan}
-use Rattle.plan.specs.Structs.{stage_of, stages_of}
+use Rattle.plan.specs.Structs.{stage_of, stages_of, plain}
 use Rattle.plan.specs.Tested.{allowed_tested}
 use Rattle.columns.specs.Ready.{Passable}
 use Rattle.rows.specs.Rows.{RowsReady}
 use Rattle.picture.specs.Ready.{Ready, after}
 
--- ---- what an answer of 0 leaves
-pub ready : (p q : Plan) (M W H : ℕ) (f : List ℤ) (nr nw : ℕ) {a : Answer} → a ≡ first_of (smooth_rows (picture_of (stages_of p) (stages_of q) W H) M f nr nw) → a.number ≡ 0 → Ready p q W H f nr nw
-ready p q M W H f nr nw e z = record { bound = M; allowed = picture_allowed (stages_of p) (stages_of q) M W H f nr nw (number_zero e z) }
+-- ---- what a test that refuses nothing leaves
+pub ready : (p q : Plan) (M W H : ℕ) (f : List ℤ) (nr nw : ℕ) → plain 0 ≡ first_of (smooth_rows (picture_of (stages_of p) (stages_of q) W H) M f nr nw) → Ready p q W H f nr nw
+ready p q M W H f nr nw e = record { bound = M; allowed = picture_allowed (stages_of p) (stages_of q) M W H f nr nw (number_zero e refl) }
 
 -- ---- the passes
 module _ {p q : Plan} {W H : ℕ} {f : List ℤ} {nd no : ℕ} (h : Ready p q W H f nd no) where

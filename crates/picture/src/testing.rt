@@ -2,9 +2,10 @@
 ghost use Rattle.std.specs.Prelude.{◌≡◌, ◌||◌};
 ghost use Rattle.meaning.specs.Refusals as R;
 ghost use Rattle.meaning.specs.Calls as C;
-ghost use Rattle.plan.specs.Structs.{stages_of, checked_answer};
+ghost use Rattle.plan.specs.Structs.{stages_of, answer_of};
 
-use plan::{Checked, Plan};
+use plan::{Raster, Refusal};
+use refusals::inner::{Span, picture_allowed, picture_cells, samples_allowed};
 
 // Is one of the three slices not of so many cells?
 fn lengths_differ(cells: usize, samples: usize, results: usize, work: usize) -> bool
@@ -17,28 +18,17 @@ fn lengths_differ(cells: usize, samples: usize, results: usize, work: usize) -> 
 }
 
 // Where row 7 applies the cells are 0, and whether lengths differ from that does not matter.
-pub(crate) fn refusal(
-    across: Plan,
-    down: Plan,
-    bound: u64,
-    width: u64,
-    height: u64,
+pub(crate) fn allowed(
+    raster: Raster,
     samples: &[i32],
     results: usize,
     work: usize,
-) -> Checked
-    ensures { checked_answer result ≡ R.first_of (C.smooth_rows (R.picture_of (stages_of across) (stages_of down) width height) bound samples.now results work) }
+) -> Result<(), Refusal>
+    ensures { answer_of result ≡ R.first_of (C.smooth_rows (R.picture_of (stages_of raster.across) (stages_of raster.down) raster.width raster.height) raster.bound samples.now results work) }
 {
     let n = samples.len();
-    let cells = refusals::inner::picture_cells(width, height);
+    let cells = picture_cells(raster.width, raster.height).unwrap_or(0);
     let wrong_length = lengths_differ(cells, n, results, work);
-    let number = refusals::inner::picture_refusal(across, down, bound, width, height, wrong_length);
-    if number != 0 {
-        return Checked {
-            number,
-            position: 0,
-            bad: 0,
-        };
-    }
-    refusals::inner::sample_refusal(bound, samples, 0, n)
+    picture_allowed(raster, wrong_length)?;
+    samples_allowed(raster.bound, samples, Span { start: 0, end: n })
 }
