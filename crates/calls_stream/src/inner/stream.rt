@@ -3,7 +3,7 @@ ghost use Rattle.std.specs.Prelude.{◌≤◌, IfOk, vec_len};
 
 use crate::inner::checksum::checksum;
 use crate::inner::element::Element;
-use plan::Plan;
+use plan::{Answer, Checked, Plan};
 use std::alloc::{AllocError, AllocFailed, Global};
 use std::io;
 use std::io::{ErrorKind, Read, Write};
@@ -57,9 +57,22 @@ pub struct Stream<R, W> {
     to: W,
 }
 
+#[derive(Clone, Copy)]
+pub struct Raster {
+    pub across: Plan,
+    pub down: Plan,
+    pub bound: u64,
+    pub width: u64,
+    pub height: u64,
+}
+
 impl<R: Read, W: Write> Stream<R, W> {
     pub fn new(alloc: Global, from: R, to: W) -> Stream<R, W> {
         Stream { alloc, from, to }
+    }
+
+    pub fn alloc(&self) -> Global {
+        self.alloc
     }
 
     pub fn word(&mut self) -> Result<u64, Ended> {
@@ -70,7 +83,7 @@ impl<R: Read, W: Write> Stream<R, W> {
         Ok(u64::from_be_bytes(bytes))
     }
 
-    pub fn one<T: Element>(&mut self) -> Result<T, Ended> {
+    pub fn element<T: Element>(&mut self) -> Result<T, Ended> {
         Ok(T::from_word(self.word()?))
     }
 
@@ -82,6 +95,21 @@ impl<R: Read, W: Write> Stream<R, W> {
         Ok(Plan::new(radius, inner, edge, passes))
     }
 
+    pub fn raster(&mut self) -> Result<Raster, Ended> {
+        let across = self.plan()?;
+        let down = self.plan()?;
+        let bound = self.word()?;
+        let width = self.word()?;
+        let height = self.word()?;
+        Ok(Raster {
+            across,
+            down,
+            bound,
+            width,
+            height,
+        })
+    }
+
     // A slice: how many elements it has, and each of them.
     pub fn slice<T: Element>(&mut self) -> Result<Vec<T>, Ended>
         ensures { IfOk result (λ v. vec_len v ≤ 131072) }
@@ -89,7 +117,7 @@ impl<R: Read, W: Write> Stream<R, W> {
         let count = self.count()?;
         let mut values = Vec::with_capacity(self.alloc, count)?;
         for _ in 0..count {
-            values.push(self.one()?)?;
+            values.push(self.element()?)?;
         }
         Ok(values)
     }
@@ -119,8 +147,21 @@ impl<R: Read, W: Write> Stream<R, W> {
         Ok(write!(self.to, "{n}")?)
     }
 
-    pub fn number(&mut self, n: u64) -> Result<(), Ended> {
+    pub fn number<T: Element>(&mut self, n: T) -> Result<(), Ended> {
         Ok(write!(self.to, " {n}")?)
+    }
+
+    // The first two words of a line.
+    pub fn answer(&mut self, answer: Answer) -> Result<(), Ended> {
+        self.first(answer.number)?;
+        self.number(answer.position as u64)
+    }
+
+    // The first three, of a call that tests samples.
+    pub fn checked(&mut self, answer: Checked) -> Result<(), Ended> {
+        self.first(answer.number)?;
+        self.number(answer.position as u64)?;
+        self.number(answer.bad as u64)
     }
 
     // A double is printed as its bits.
@@ -143,7 +184,7 @@ impl<R: Read, W: Write> Stream<R, W> {
 
     fn each<T: Element>(&mut self, values: &[T]) -> Result<(), Ended> {
         for x in values {
-            write!(self.to, " {x}")?;
+            self.number(*x)?;
         }
         Ok(())
     }
