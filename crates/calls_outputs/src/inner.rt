@@ -1,5 +1,6 @@
 // Doubles in, doubles and summaries out, and results as doubles and back.
 use calls_stream::inner::stream::{Ended, Stream};
+use plan::Refusal;
 use std::io::{Read, Write};
 use summary::Summary;
 
@@ -9,7 +10,8 @@ pub fn doubles_in<R: Read, W: Write>(stream: &mut Stream<R, W>) -> Result<(), En
     let doubles = stream.doubles()?.values;
     let mut samples = stream.slice::<i32>()?;
     let answer = samples::doubles_in(bound, &doubles, &mut samples);
-    stream.checked(answer)?;
+    stream.answer(&answer)?;
+    stream.bad(&answer)?;
     stream.print(&samples)?;
     stream.end_line()
 }
@@ -18,30 +20,44 @@ pub fn doubles_in<R: Read, W: Write>(stream: &mut Stream<R, W>) -> Result<(), En
 pub fn doubles_series<R: Read, W: Write>(stream: &mut Stream<R, W>) -> Result<(), Ended> {
     let plan = stream.plan()?;
     let bound = stream.word()?;
-    let results = stream.slice::<i64>()?;
-    let mut cells = stream.doubles()?;
-    let answer = doubles::doubles_series(plan, bound, &results, &mut cells.values);
-    stream.answer(answer)?;
-    stream.print_doubles(&mut cells)?;
-    stream.end_line()
+    doubled(stream, |results, cells| { doubles::doubles_series(plan, bound, results, cells) })
 }
 
 // Call 11.
 pub fn doubles_picture<R: Read, W: Write>(stream: &mut Stream<R, W>) -> Result<(), Ended> {
     let raster = stream.raster()?;
+    doubled(stream, |results, cells| { doubles::doubles_picture(raster, results, cells) })
+}
+
+// Call 25.
+pub fn results_to_doubles<R: Read, W: Write>(stream: &mut Stream<R, W>) -> Result<(), Ended> {
+    doubled(stream, exact::results_to_doubles)
+}
+
+// Results and doubles are read, and what the call makes of them is printed.
+fn doubled<R, W, F>(stream: &mut Stream<R, W>, call: F) -> Result<(), Ended>
+where
+    R: Read,
+    W: Write,
+    F: FnOnce(&[i64], &mut [f64]) -> Result<(), Refusal>,
+    requires { F.IsAlwaysCallable call }
+{
     let results = stream.slice::<i64>()?;
     let mut cells = stream.doubles()?;
-    let answer = doubles::doubles_picture(
-        raster.across,
-        raster.down,
-        raster.bound,
-        raster.width,
-        raster.height,
-        &results,
-        &mut cells.values,
-    );
-    stream.answer(answer)?;
+    let answer = call(&results, &mut cells.values);
+    stream.answer(&answer)?;
     stream.print_doubles(&mut cells)?;
+    stream.end_line()
+}
+
+// Call 26.
+pub fn doubles_to_results<R: Read, W: Write>(stream: &mut Stream<R, W>) -> Result<(), Ended> {
+    let doubles = stream.doubles()?.values;
+    let mut results = stream.slice::<i64>()?;
+    let answer = exact::doubles_to_results(&doubles, &mut results);
+    stream.answer(&answer)?;
+    stream.bad(&answer)?;
+    stream.print(&results)?;
     stream.end_line()
 }
 
@@ -57,45 +73,26 @@ pub fn summary_series<R: Read, W: Write>(stream: &mut Stream<R, W>) -> Result<()
 pub fn summary_picture<R: Read, W: Write>(stream: &mut Stream<R, W>) -> Result<(), Ended> {
     let raster = stream.raster()?;
     let results = stream.slice::<i64>()?;
-    summarised(
-        stream,
-        summary::summary_picture(
-            raster.across,
-            raster.down,
-            raster.bound,
-            raster.width,
-            raster.height,
-            &results,
-        ),
-    )
+    summarised(stream, summary::summary_picture(raster, &results))
 }
 
-fn summarised<R: Read, W: Write>(stream: &mut Stream<R, W>, summary: Summary) -> Result<(), Ended> {
-    stream.first(summary.number)?;
-    stream.number(summary.position as u64)?;
-    stream.double(summary.lowest)?;
-    stream.double(summary.highest)?;
-    stream.number(summary.lowest_at as u64)?;
-    stream.number(summary.highest_at as u64)?;
-    stream.end_line()
-}
-
-// Call 25.
-pub fn results_to_doubles<R: Read, W: Write>(stream: &mut Stream<R, W>) -> Result<(), Ended> {
-    let results = stream.slice::<i64>()?;
-    let mut cells = stream.doubles()?;
-    let answer = exact::results_to_doubles(&results, &mut cells.values);
-    stream.answer(answer)?;
-    stream.print_doubles(&mut cells)?;
-    stream.end_line()
-}
-
-// Call 26.
-pub fn doubles_to_results<R: Read, W: Write>(stream: &mut Stream<R, W>) -> Result<(), Ended> {
-    let doubles = stream.doubles()?.values;
-    let mut results = stream.slice::<i64>()?;
-    let answer = exact::doubles_to_results(&doubles, &mut results);
-    stream.checked(answer)?;
-    stream.print(&results)?;
+fn summarised<R, W>(
+    stream: &mut Stream<R, W>,
+    summary: Result<Summary, Refusal>,
+) -> Result<(), Ended>
+where
+    R: Read,
+    W: Write,
+{
+    stream.answer(&summary)?;
+    match summary {
+        Ok(summary) => {
+            stream.double(summary.lowest)?;
+            stream.double(summary.highest)?;
+            stream.number(summary.lowest_at as u64)?;
+            stream.number(summary.highest_at as u64)?;
+        }
+        Err(_) => stream.print(&[0u64; 4])?,
+    }
     stream.end_line()
 }

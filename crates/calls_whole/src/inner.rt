@@ -1,6 +1,6 @@
 // Whole numbers out.
 use calls_stream::inner::stream::{Ended, Stream};
-use carry::Carried;
+use plan::Refusal;
 use std::io::{Read, Write};
 
 // Call 7.
@@ -8,31 +8,41 @@ pub fn whole_series_by<R: Read, W: Write>(stream: &mut Stream<R, W>) -> Result<(
     let plan = stream.plan()?;
     let bound = stream.word()?;
     let mode = stream.word()?;
-    let results = stream.slice::<i64>()?;
-    let mut cells = stream.slice::<i32>()?;
-    let answer = whole::whole_series_by(plan, bound, mode, &results, &mut cells);
-    stream.answer(answer)?;
-    stream.print(&cells)?;
-    stream.end_line()
+    rounded(stream, |results, cells| { whole::whole_series_by(plan, bound, mode, results, cells) })
 }
 
 // Call 10.
 pub fn whole_picture_by<R: Read, W: Write>(stream: &mut Stream<R, W>) -> Result<(), Ended> {
     let raster = stream.raster()?;
     let mode = stream.word()?;
+    rounded(stream, |results, cells| { whole::whole_picture_by(raster, mode, results, cells) })
+}
+
+// Call 107.
+pub fn whole_series<R: Read, W: Write>(stream: &mut Stream<R, W>) -> Result<(), Ended> {
+    let plan = stream.plan()?;
+    let bound = stream.word()?;
+    rounded(stream, |results, cells| { whole::whole_series(plan, bound, results, cells) })
+}
+
+// Call 110.
+pub fn whole_picture<R: Read, W: Write>(stream: &mut Stream<R, W>) -> Result<(), Ended> {
+    let raster = stream.raster()?;
+    rounded(stream, |results, cells| { whole::whole_picture(raster, results, cells) })
+}
+
+// Results and cells are read, and what the call makes of them is printed.
+fn rounded<R, W, F>(stream: &mut Stream<R, W>, call: F) -> Result<(), Ended>
+where
+    R: Read,
+    W: Write,
+    F: FnOnce(&[i64], &mut [i32]) -> Result<(), Refusal>,
+    requires { F.IsAlwaysCallable call }
+{
     let results = stream.slice::<i64>()?;
     let mut cells = stream.slice::<i32>()?;
-    let answer = whole::whole_picture_by(
-        raster.across,
-        raster.down,
-        raster.bound,
-        raster.width,
-        raster.height,
-        mode,
-        &results,
-        &mut cells,
-    );
-    stream.answer(answer)?;
+    let answer = call(&results, &mut cells);
+    stream.answer(&answer)?;
     stream.print(&cells)?;
     stream.end_line()
 }
@@ -41,66 +51,28 @@ pub fn whole_picture_by<R: Read, W: Write>(stream: &mut Stream<R, W>) -> Result<
 pub fn carry_series<R: Read, W: Write>(stream: &mut Stream<R, W>) -> Result<(), Ended> {
     let plan = stream.plan()?;
     let bound = stream.word()?;
-    let results = stream.slice::<i64>()?;
-    let mut cells = stream.slice::<i32>()?;
-    let answer = carry::carry_series(plan, bound, &results, &mut cells);
-    carried(stream, answer)?;
-    stream.print(&cells)?;
-    stream.end_line()
+    carried(stream, |results, cells| { carry::carry_series(plan, bound, results, cells) })
 }
 
 // Call 16.
 pub fn carry_picture<R: Read, W: Write>(stream: &mut Stream<R, W>) -> Result<(), Ended> {
     let raster = stream.raster()?;
-    let results = stream.slice::<i64>()?;
-    let mut cells = stream.slice::<i32>()?;
-    let answer = carry::carry_picture(
-        raster.across,
-        raster.down,
-        raster.bound,
-        raster.width,
-        raster.height,
-        &results,
-        &mut cells,
-    );
-    carried(stream, answer)?;
-    stream.print(&cells)?;
-    stream.end_line()
+    carried(stream, |results, cells| { carry::carry_picture(raster, results, cells) })
 }
 
-// Call 107.
-pub fn whole_series<R: Read, W: Write>(stream: &mut Stream<R, W>) -> Result<(), Ended> {
-    let plan = stream.plan()?;
-    let bound = stream.word()?;
+// The same, with what is carried out of the last cell.
+fn carried<R, W, F>(stream: &mut Stream<R, W>, call: F) -> Result<(), Ended>
+where
+    R: Read,
+    W: Write,
+    F: FnOnce(&[i64], &mut [i32]) -> Result<u64, Refusal>,
+    requires { F.IsAlwaysCallable call }
+{
     let results = stream.slice::<i64>()?;
     let mut cells = stream.slice::<i32>()?;
-    let answer = whole::whole_series(plan, bound, &results, &mut cells);
-    stream.answer(answer)?;
+    let answer = call(&results, &mut cells);
+    stream.answer(&answer)?;
+    stream.number(answer.unwrap_or(0))?;
     stream.print(&cells)?;
     stream.end_line()
-}
-
-// Call 110.
-pub fn whole_picture<R: Read, W: Write>(stream: &mut Stream<R, W>) -> Result<(), Ended> {
-    let raster = stream.raster()?;
-    let results = stream.slice::<i64>()?;
-    let mut cells = stream.slice::<i32>()?;
-    let answer = whole::whole_picture(
-        raster.across,
-        raster.down,
-        raster.bound,
-        raster.width,
-        raster.height,
-        &results,
-        &mut cells,
-    );
-    stream.answer(answer)?;
-    stream.print(&cells)?;
-    stream.end_line()
-}
-
-fn carried<R: Read, W: Write>(stream: &mut Stream<R, W>, answer: Carried) -> Result<(), Ended> {
-    stream.first(answer.number)?;
-    stream.number(answer.position as u64)?;
-    stream.number(answer.carry)
 }

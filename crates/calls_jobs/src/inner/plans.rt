@@ -1,5 +1,6 @@
 // A plan by itself, and the planner.
 use calls_stream::inner::stream::{Ended, Stream};
+use plan::Refusal;
 use planner::Planned;
 use std::io::{Read, Write};
 
@@ -8,11 +9,18 @@ pub fn plan_for<R: Read, W: Write>(stream: &mut Stream<R, W>) -> Result<(), Ende
     let sigma = stream.word()?;
     let passes = stream.word()?;
     let inner = stream.word()?;
-    let planned = planner::plan_for(sigma, passes, inner);
-    stream.first(planned.number)?;
-    stream.number(planned.radius)?;
-    stream.number(planned.edge)?;
+    let [number, radius, edge] = words_of(planner::plan_for(sigma, passes, inner));
+    stream.first(number)?;
+    stream.print(&[radius, edge])?;
     stream.end_line()
+}
+
+// Number, radius and edge weight.
+fn words_of(planned: Result<Planned, Refusal>) -> [u64; 3] {
+    match planned {
+        Ok(planned) => [0, planned.radius, planned.edge],
+        Err(refusal) => [refusal.number(), 0, 0],
+    }
 }
 
 // Call 100.
@@ -29,10 +37,7 @@ pub fn plans_for_all<R: Read, W: Write>(stream: &mut Stream<R, W>) -> Result<(),
     let inner = stream.word()?;
     let mut words = Vec::new(stream.alloc());
     for sigma in 1..=Planned::MAX_SIGMA {
-        let planned = planner::plan_for(sigma, passes, inner);
-        words.push(planned.number)?;
-        words.push(planned.radius)?;
-        words.push(planned.edge)?;
+        words.extend_from_slice(&words_of(planner::plan_for(sigma, passes, inner)))?;
     }
     stream.first(Planned::MAX_SIGMA)?;
     stream.print(&words)?;

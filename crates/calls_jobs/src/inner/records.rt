@@ -1,33 +1,43 @@
 // The job record.
 use calls_stream::inner::stream::{Ended, Stream};
+use record::Fields;
 use std::io::{Read, Write};
 
 // Call 13.
 pub fn read_record<R: Read, W: Write>(stream: &mut Stream<R, W>) -> Result<(), Ended> {
     let bytes = stream.slice::<u8>()?;
-    let job = reader::read_record(&bytes);
-    stream.first(job.number)?;
-    stream.number(job.radius as u64)?;
-    stream.number(job.inner)?;
-    stream.number(job.edge)?;
-    stream.number(job.passes)?;
-    stream.number(job.bound as u64)?;
-    stream.number(job.start as u64)?;
-    stream.number(job.size as u64)?;
+    match reader::read_record(&bytes) {
+        Ok(job) => {
+            stream.first(0)?;
+            stream.number(u64::from(job.fields.radius))?;
+            stream.number(job.fields.inner)?;
+            stream.number(job.fields.edge)?;
+            stream.number(job.fields.passes)?;
+            stream.number(u64::from(job.fields.bound))?;
+            stream.number(job.start as u64)?;
+            stream.number(job.size as u64)?;
+        }
+        Err(refusal) => {
+            stream.first(refusal.number())?;
+            stream.print(&[0u64; 7])?;
+        }
+    }
     stream.end_line()
 }
 
 // Call 14.
 pub fn write_record<R: Read, W: Write>(stream: &mut Stream<R, W>) -> Result<(), Ended> {
-    let radius = (stream.word()? % 65536) as u16;
-    let inner = stream.element()?;
-    let edge = stream.element()?;
-    let passes = stream.element()?;
-    let bound = (stream.word()? % 4294967296) as u32;
+    let fields = Fields {
+        radius: (stream.word()? % 65536) as u16,
+        inner: stream.element()?,
+        edge: stream.element()?,
+        passes: stream.element()?,
+        bound: (stream.word()? % 4294967296) as u32,
+    };
     let samples = stream.slice::<i32>()?;
     let mut bytes = stream.slice::<u8>()?;
-    let answer = writer::write_record(radius, inner, edge, passes, bound, &samples, &mut bytes);
-    stream.answer(answer)?;
+    let answer = writer::write_record(fields, &samples, &mut bytes);
+    stream.answer(&answer)?;
     stream.print(&bytes)?;
     stream.end_line()
 }

@@ -3,7 +3,7 @@ ghost use Rattle.std.specs.Prelude.{◌≤◌, IfOk, vec_len};
 
 use crate::inner::checksum::checksum;
 use crate::inner::element::Element;
-use plan::{Answer, Checked, Plan};
+use plan::{Plan, Raster, Refusal};
 use std::alloc::{AllocError, AllocFailed, Global};
 use std::io;
 use std::io::{ErrorKind, Read, Write};
@@ -55,15 +55,6 @@ pub struct Stream<R, W> {
     alloc: Global,
     from: R,
     to: W,
-}
-
-#[derive(Clone, Copy)]
-pub struct Raster {
-    pub across: Plan,
-    pub down: Plan,
-    pub bound: u64,
-    pub width: u64,
-    pub height: u64,
 }
 
 impl<R: Read, W: Write> Stream<R, W> {
@@ -151,17 +142,23 @@ impl<R: Read, W: Write> Stream<R, W> {
         Ok(write!(self.to, " {n}")?)
     }
 
-    // The first two words of a line.
-    pub fn answer(&mut self, answer: Answer) -> Result<(), Ended> {
-        self.first(answer.number)?;
-        self.number(answer.position as u64)
+    // The first two words of a line: what refuses the call, and where. Both are 0 of a call that is done.
+    pub fn answer<T>(&mut self, answer: &Result<T, Refusal>) -> Result<(), Ended> {
+        let (number, position) = match answer {
+            Ok(_) => (0, 0),
+            Err(refusal) => (refusal.number(), refusal.position()),
+        };
+        self.first(number)?;
+        self.number(position as u64)
     }
 
-    // The first three, of a call that tests samples.
-    pub fn checked(&mut self, answer: Checked) -> Result<(), Ended> {
-        self.first(answer.number)?;
-        self.number(answer.position as u64)?;
-        self.number(answer.bad as u64)
+    // How many samples are bad.
+    pub fn bad<T>(&mut self, answer: &Result<T, Refusal>) -> Result<(), Ended> {
+        let bad = match answer {
+            Ok(_) => 0,
+            Err(refusal) => refusal.bad(),
+        };
+        self.number(bad as u64)
     }
 
     // A double is printed as its bits.
