@@ -1,4 +1,4 @@
--- The calls by their numbers, as docs/PROMISES.md and the vectors have them.
+-- The calls by their numbers, those of the files in reference/vectors.
 --   number_of call   a call's number
 --   Decodes n r      r is the call of number n, or n is no call's number
 use Rattle.std.specs.Prelude.{◌≡◌, ◌≢◌, ℕ, Result, MatchResult}

@@ -1,5 +1,5 @@
 // A stream: 8-byte words come in, high byte first, and lines of words go out, one space between two.
-ghost use Rattle.std.specs.Prelude.{◌≤◌, IfOk, vec_len};
+ghost use Rattle.std.specs.Prelude.{◌≡◌, ◌≤◌, IfOk, vec_len};
 
 use crate::inner::checksum::checksum;
 use crate::inner::element::Element;
@@ -48,6 +48,20 @@ impl From<io::Error> for Ended {
 pub struct Doubles {
     pub values: Vec<f64>,
     words: Vec<u64>,
+    ghost paired: { vec_len values ≡ vec_len words },
+}
+
+impl Doubles {
+    // Of a NaN, the word that it was read from.
+    fn bits(&self, alloc: Global) -> Result<Vec<u64>, AllocError>
+        ensures { IfOk result (λ v. vec_len v ≡ vec_len self.now.values) }
+    {
+        self.values
+            .iter()
+            .zip(self.words.iter())
+            .map(|(x, word)| if x.is_nan() { *word } else { x.to_bits() })
+            .collect(alloc)
+    }
 }
 
 #[derive(Drop)]
@@ -186,14 +200,8 @@ impl<R: Read, W: Write> Stream<R, W> {
         Ok(())
     }
 
-    // A NaN is printed as the word that it was read from.
-    pub fn print_doubles(&mut self, doubles: &mut Doubles) -> Result<(), Ended> {
-        for (word, x) in doubles.words.iter_mut().zip(doubles.values.iter()) {
-            if !x.is_nan() {
-                *word = x.to_bits();
-            }
-        }
-        self.print(&doubles.words)
+    pub fn print_doubles(&mut self, doubles: &Doubles) -> Result<(), Ended> {
+        self.print(&doubles.bits(self.alloc)?)
     }
 
     pub fn end_line(&mut self) -> Result<(), Ended> {
