@@ -1,3 +1,3 @@
 -- The words of this crate's contracts.
---   Rooms   the driver's slices
-pub mod Rooms
+--   Numbers   the calls by their numbers
+pub mod Numbers

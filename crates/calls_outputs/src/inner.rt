@@ -1,236 +1,98 @@
-// Doubles in, doubles and summaries out, and results as doubles and back. Each call is read by one function, and made and printed by the next.
-ghost use Rattle.std.specs.Prelude.{◌≤◌, length};
-
-use calls_stream::inner::input::Raster;
-use calls_stream::inner::output::Lines;
-use calls_stream::inner::{input, output};
-use plan::Plan;
+// Doubles in, doubles and summaries out, and results as doubles and back.
+use calls_stream::inner::stream::{Ended, Stream};
+use plan::Refusal;
 use std::io::{Read, Write};
 use summary::Summary;
 
-// Calls 6, 8, 9, 11, 12, 25 and 26.
-pub fn one_call<R: Read, W: Write>(
-    from: &mut R,
-    to: &mut Lines<W>,
-    open: &mut bool,
-    number: u64,
-    samples: &mut [i32],
-    results: &mut [i64],
-    doubles: &mut [f64],
-    words: &mut [u64],
-)
-    requires { length doubles.old ≤ length words.old }
-{
-    match number {
-        6 => doubles_in(from, to, open, samples, doubles, words),
-        8 => doubles_series(from, to, open, results, doubles, words),
-        9 => summary_series(from, to, open, results),
-        11 => doubles_picture(from, to, open, results, doubles, words),
-        12 => summary_picture(from, to, open, results),
-        25 => results_to_doubles(from, to, open, results, doubles, words),
-        _ => doubles_to_results(from, to, open, results, doubles, words),
-    }
-}
-
 // Call 6.
-fn doubles_in<R: Read, W: Write>(
-    from: &mut R,
-    to: &mut Lines<W>,
-    open: &mut bool,
-    samples: &mut [i32],
-    doubles: &mut [f64],
-    words: &mut [u64],
-)
-    requires { length doubles.old ≤ length words.old }
-{
-    let bound = input::word(from, open);
-    let n = input::doubles(from, to, open, words, doubles);
-    let cells = input::samples(from, to, open, samples);
-    if *open {
-        taken(to, bound, &doubles[..n], &mut samples[..cells]);
-    }
-}
-
-fn taken<W: Write>(to: &mut Lines<W>, bound: u64, doubles: &[f64], samples: &mut [i32]) {
-    output::checked(to, samples::doubles_in(bound, doubles, samples));
-    output::samples(to, samples);
-    output::end_line(to);
+pub fn doubles_in<R: Read, W: Write>(stream: &mut Stream<R, W>) -> Result<(), Ended> {
+    let bound = stream.word()?;
+    let doubles = stream.doubles()?.values;
+    let mut samples = stream.slice::<i32>()?;
+    let answer = samples::doubles_in(bound, &doubles, &mut samples);
+    stream.answer(&answer)?;
+    stream.bad(&answer)?;
+    stream.print(&samples)?;
+    stream.end_line()
 }
 
 // Call 8.
-fn doubles_series<R: Read, W: Write>(
-    from: &mut R,
-    to: &mut Lines<W>,
-    open: &mut bool,
-    results: &mut [i64],
-    cells: &mut [f64],
-    words: &mut [u64],
-)
-    requires { length cells.old ≤ length words.old }
-{
-    let plan = input::plan(from, open);
-    let bound = input::word(from, open);
-    let n = input::wholes(from, to, open, results);
-    let count = input::doubles(from, to, open, words, cells);
-    if *open {
-        doubles_of_series(to, plan, bound, &results[..n], &mut cells[..count], words);
-    }
-}
-
-fn doubles_of_series<W: Write>(
-    to: &mut Lines<W>,
-    plan: Plan,
-    bound: u64,
-    results: &[i64],
-    cells: &mut [f64],
-    words: &mut [u64],
-)
-    requires { length cells.old ≤ length words.old }
-{
-    output::answer(to, doubles::doubles_series(plan, bound, results, cells));
-    output::doubles(to, cells, words);
-    output::end_line(to);
-}
-
-// Call 9.
-fn summary_series<R: Read, W: Write>(
-    from: &mut R,
-    to: &mut Lines<W>,
-    open: &mut bool,
-    results: &mut [i64],
-) {
-    let plan = input::plan(from, open);
-    let bound = input::word(from, open);
-    let n = input::wholes(from, to, open, results);
-    if *open {
-        summarised(to, summary::summary_series(plan, bound, &results[..n]));
-    }
+pub fn doubles_series<R: Read, W: Write>(stream: &mut Stream<R, W>) -> Result<(), Ended> {
+    let plan = stream.plan()?;
+    let bound = stream.word()?;
+    doubled(stream, |results, cells| { doubles::doubles_series(plan, bound, results, cells) })
 }
 
 // Call 11.
-fn doubles_picture<R: Read, W: Write>(
-    from: &mut R,
-    to: &mut Lines<W>,
-    open: &mut bool,
-    results: &mut [i64],
-    cells: &mut [f64],
-    words: &mut [u64],
-)
-    requires { length cells.old ≤ length words.old }
-{
-    let picture = input::picture(from, open);
-    let n = input::wholes(from, to, open, results);
-    let count = input::doubles(from, to, open, words, cells);
-    if *open {
-        doubles_of_picture(to, picture, &results[..n], &mut cells[..count], words);
-    }
-}
-
-fn doubles_of_picture<W: Write>(
-    to: &mut Lines<W>,
-    picture: Raster,
-    results: &[i64],
-    cells: &mut [f64],
-    words: &mut [u64],
-)
-    requires { length cells.old ≤ length words.old }
-{
-    output::answer(
-        to,
-        doubles::doubles_picture(
-            picture.across,
-            picture.down,
-            picture.bound,
-            picture.width,
-            picture.height,
-            results,
-            cells,
-        ),
-    );
-    output::doubles(to, cells, words);
-    output::end_line(to);
-}
-
-// Call 12.
-fn summary_picture<R: Read, W: Write>(
-    from: &mut R,
-    to: &mut Lines<W>,
-    open: &mut bool,
-    results: &mut [i64],
-) {
-    let picture = input::picture(from, open);
-    let n = input::wholes(from, to, open, results);
-    if *open {
-        summarised(
-            to,
-            summary::summary_picture(
-                picture.across,
-                picture.down,
-                picture.bound,
-                picture.width,
-                picture.height,
-                &results[..n],
-            ),
-        );
-    }
-}
-
-fn summarised<W: Write>(to: &mut Lines<W>, summary: Summary) {
-    output::first(to, summary.number);
-    output::number(to, summary.position as u64);
-    output::double(to, summary.lowest);
-    output::double(to, summary.highest);
-    output::number(to, summary.lowest_at as u64);
-    output::number(to, summary.highest_at as u64);
-    output::end_line(to);
+pub fn doubles_picture<R: Read, W: Write>(stream: &mut Stream<R, W>) -> Result<(), Ended> {
+    let raster = stream.raster()?;
+    doubled(stream, |results, cells| { doubles::doubles_picture(raster, results, cells) })
 }
 
 // Call 25.
-fn results_to_doubles<R: Read, W: Write>(
-    from: &mut R,
-    to: &mut Lines<W>,
-    open: &mut bool,
-    results: &mut [i64],
-    cells: &mut [f64],
-    words: &mut [u64],
-)
-    requires { length cells.old ≤ length words.old }
-{
-    let n = input::wholes(from, to, open, results);
-    let count = input::doubles(from, to, open, words, cells);
-    if *open {
-        as_doubles(to, &results[..n], &mut cells[..count], words);
-    }
+pub fn results_to_doubles<R: Read, W: Write>(stream: &mut Stream<R, W>) -> Result<(), Ended> {
+    doubled(stream, exact::results_to_doubles)
 }
 
-fn as_doubles<W: Write>(to: &mut Lines<W>, results: &[i64], cells: &mut [f64], words: &mut [u64])
-    requires { length cells.old ≤ length words.old }
+// Results and doubles are read, and what the call makes of them is printed.
+fn doubled<R, W, F>(stream: &mut Stream<R, W>, call: F) -> Result<(), Ended>
+where
+    R: Read,
+    W: Write,
+    F: FnOnce(&[i64], &mut [f64]) -> Result<(), Refusal>,
+    requires { F.IsAlwaysCallable call }
 {
-    output::answer(to, exact::results_to_doubles(results, cells));
-    output::doubles(to, cells, words);
-    output::end_line(to);
+    let results = stream.slice::<i64>()?;
+    let mut cells = stream.doubles()?;
+    let answer = call(&results, &mut cells.values);
+    stream.answer(&answer)?;
+    stream.print_doubles(&mut cells)?;
+    stream.end_line()
 }
 
 // Call 26.
-fn doubles_to_results<R: Read, W: Write>(
-    from: &mut R,
-    to: &mut Lines<W>,
-    open: &mut bool,
-    results: &mut [i64],
-    doubles: &mut [f64],
-    words: &mut [u64],
-)
-    requires { length doubles.old ≤ length words.old }
-{
-    let n = input::doubles(from, to, open, words, doubles);
-    let count = input::wholes(from, to, open, results);
-    if *open {
-        as_results(to, &doubles[..n], &mut results[..count]);
-    }
+pub fn doubles_to_results<R: Read, W: Write>(stream: &mut Stream<R, W>) -> Result<(), Ended> {
+    let doubles = stream.doubles()?.values;
+    let mut results = stream.slice::<i64>()?;
+    let answer = exact::doubles_to_results(&doubles, &mut results);
+    stream.answer(&answer)?;
+    stream.bad(&answer)?;
+    stream.print(&results)?;
+    stream.end_line()
 }
 
-fn as_results<W: Write>(to: &mut Lines<W>, doubles: &[f64], results: &mut [i64]) {
-    output::checked(to, exact::doubles_to_results(doubles, results));
-    output::wholes(to, results);
-    output::end_line(to);
+// Call 9.
+pub fn summary_series<R: Read, W: Write>(stream: &mut Stream<R, W>) -> Result<(), Ended> {
+    let plan = stream.plan()?;
+    let bound = stream.word()?;
+    let results = stream.slice::<i64>()?;
+    summarised(stream, summary::summary_series(plan, bound, &results))
+}
+
+// Call 12.
+pub fn summary_picture<R: Read, W: Write>(stream: &mut Stream<R, W>) -> Result<(), Ended> {
+    let raster = stream.raster()?;
+    let results = stream.slice::<i64>()?;
+    summarised(stream, summary::summary_picture(raster, &results))
+}
+
+fn summarised<R, W>(
+    stream: &mut Stream<R, W>,
+    summary: Result<Summary, Refusal>,
+) -> Result<(), Ended>
+where
+    R: Read,
+    W: Write,
+{
+    stream.answer(&summary)?;
+    match summary {
+        Ok(summary) => {
+            stream.double(summary.lowest)?;
+            stream.double(summary.highest)?;
+            stream.number(summary.lowest_at as u64)?;
+            stream.number(summary.highest_at as u64)?;
+        }
+        Err(_) => stream.print(&[0u64; 4])?,
+    }
+    stream.end_line()
 }

@@ -4,10 +4,11 @@
 --   weighted f n     the sum of (i + 1) f(i) over the first n elements
 --   checksum_to f n   that sum modulo 2³¹ − 1, never negative
 --   checksum_of f     the checksum of all elements
--- Laws: checksum_below, checksum_none, checksum_more (one element more adds its weighted remainder), number_residue (of a number without sign).
+-- Laws: checksum_below, checksum_none, checksum_more (one element more adds its weighted remainder), element_residue (of elements that stand for numbers), checksum_same (of the numbers themselves).
 use Rattle.std.specs.Prelude.{◌≡◌, refl, List, map, ℕ, zero, suc, ◌+◌, ◌*◌, ◌%◌, ◌<◌, length, get_or, ℤ, pos, ◌+ℤ◌, ◌*ℤ◌}
 use Rattle.std.proofs.Common.{sym, ◌∙◌, mul_comm, add-one, arith}
 use Rattle.std.proofs.Math.Path.{ap}
+use Rattle.std.proofs.lemmas.List.{map-id}
 use Rattle.std.proofs.Math.IntN.{*ℤ_comm, zero-*ℤ, suc_ℤ-*ℤ}
 use Rattle.algebra.specs.Ring.{ac}
 use Rattle.algebra.specs.Sum.{sum}
@@ -66,6 +67,8 @@ module _ (p : ℕ) (h : 0 < p) where
 pub checksum_more : (f : List ℤ) (i : ℕ) {s t x : ℕ} → s ≡ checksum_to f i → x ≡ emod (get_or f i (pos 0)) modulus → t ≡ gained s i x → t ≡ checksum_to f (i + 1)
 checksum_more f i {x = x} e h g = g ∙ ap (λ y. gained y i x) e ∙ ap (gained (checksum_to f i) i) h ∙ sym (weighted_more modulus (omega arith) f i)
 
-pub number_residue : (xs : List ℕ) (i : ℕ) → i < length xs → get_or xs i 0 % modulus ≡ emod (get_or (map pos xs) i (pos 0)) modulus
-unfolding emod
-number_residue xs i l = rw (get_d_map pos xs i 0 (pos 0) l)
+pub element_residue : {A : Type 0} (f : A → ℤ) (xs : List A) (i : ℕ) {x : A} → i < length xs → x ≡ get_or xs i x → emod (f x) modulus ≡ emod (get_or (map f xs) i (pos 0)) modulus
+element_residue f xs i {x} l e = ap (λ z. emod z modulus) (ap f e ∙ sym (get_d_map f xs i x (pos 0) l))
+
+pub checksum_same : (f : List ℤ) → checksum_of (map (λ z. z) f) ≡ checksum_of f
+checksum_same f = ap checksum_of (map-id f)

@@ -1,3 +1,4 @@
 // Standard input and standard output.
-pub mod input;
-pub mod output;
+pub mod checksum;
+pub mod element;
+pub mod stream;

@@ -1,189 +1,78 @@
-// Whole numbers out. Each call is read by one function, and made and printed by the next.
-use calls_stream::inner::input::Raster;
-use calls_stream::inner::output::Lines;
-use calls_stream::inner::{input, output};
-use carry::Carried;
-use plan::Plan;
+// Whole numbers out.
+use calls_stream::inner::stream::{Ended, Stream};
+use plan::Refusal;
 use std::io::{Read, Write};
 
-// Calls 7, 10, 15 and 16, and 107 and 110, which are 7 and 10 without a mode.
-pub fn one_call<R: Read, W: Write>(
-    from: &mut R,
-    to: &mut Lines<W>,
-    open: &mut bool,
-    number: u64,
-    results: &mut [i64],
-    cells: &mut [i32],
-) {
-    match number {
-        7 | 15 | 107 => series(from, to, open, number, results, cells),
-        _ => picture(from, to, open, number, results, cells),
-    }
+// Call 7.
+pub fn whole_series_by<R: Read, W: Write>(stream: &mut Stream<R, W>) -> Result<(), Ended> {
+    let plan = stream.plan()?;
+    let bound = stream.word()?;
+    let mode = stream.word()?;
+    rounded(stream, |results, cells| { whole::whole_series_by(plan, bound, mode, results, cells) })
 }
 
-// The mode of calls 7 and 10. The others have none, and do not use the 0.
-fn mode_of<R: Read>(from: &mut R, open: &mut bool, number: u64) -> u64 {
-    match number {
-        7 | 10 => input::word(from, open),
-        _ => 0,
-    }
+// Call 10.
+pub fn whole_picture_by<R: Read, W: Write>(stream: &mut Stream<R, W>) -> Result<(), Ended> {
+    let raster = stream.raster()?;
+    let mode = stream.word()?;
+    rounded(stream, |results, cells| { whole::whole_picture_by(raster, mode, results, cells) })
 }
 
-// Calls 7, 15 and 107.
-fn series<R: Read, W: Write>(
-    from: &mut R,
-    to: &mut Lines<W>,
-    open: &mut bool,
-    number: u64,
-    results: &mut [i64],
-    cells: &mut [i32],
-) {
-    let plan = input::plan(from, open);
-    let bound = input::word(from, open);
-    let mode = mode_of(from, open, number);
-    let n = input::wholes(from, to, open, results);
-    let count = input::samples(from, to, open, cells);
-    if *open {
-        match number {
-            7 => rounded_of_series(to, plan, bound, mode, &results[..n], &mut cells[..count]),
-            15 => carried_of_series(to, plan, bound, &results[..n], &mut cells[..count]),
-            _ => default_of_series(to, plan, bound, &results[..n], &mut cells[..count]),
-        }
-    }
+// Call 107.
+pub fn whole_series<R: Read, W: Write>(stream: &mut Stream<R, W>) -> Result<(), Ended> {
+    let plan = stream.plan()?;
+    let bound = stream.word()?;
+    rounded(stream, |results, cells| { whole::whole_series(plan, bound, results, cells) })
 }
 
-fn rounded_of_series<W: Write>(
-    to: &mut Lines<W>,
-    plan: Plan,
-    bound: u64,
-    mode: u64,
-    results: &[i64],
-    cells: &mut [i32],
-) {
-    output::answer(
-        to,
-        whole::whole_series_by(plan, bound, mode, results, cells),
-    );
-    output::samples(to, cells);
-    output::end_line(to);
+// Call 110.
+pub fn whole_picture<R: Read, W: Write>(stream: &mut Stream<R, W>) -> Result<(), Ended> {
+    let raster = stream.raster()?;
+    rounded(stream, |results, cells| { whole::whole_picture(raster, results, cells) })
 }
 
-fn default_of_series<W: Write>(
-    to: &mut Lines<W>,
-    plan: Plan,
-    bound: u64,
-    results: &[i64],
-    cells: &mut [i32],
-) {
-    output::answer(to, whole::whole_series(plan, bound, results, cells));
-    output::samples(to, cells);
-    output::end_line(to);
+// Results and cells are read, and what the call makes of them is printed.
+fn rounded<R, W, F>(stream: &mut Stream<R, W>, call: F) -> Result<(), Ended>
+where
+    R: Read,
+    W: Write,
+    F: FnOnce(&[i64], &mut [i32]) -> Result<(), Refusal>,
+    requires { F.IsAlwaysCallable call }
+{
+    let results = stream.slice::<i64>()?;
+    let mut cells = stream.slice::<i32>()?;
+    let answer = call(&results, &mut cells);
+    stream.answer(&answer)?;
+    stream.print(&cells)?;
+    stream.end_line()
 }
 
-fn carried_of_series<W: Write>(
-    to: &mut Lines<W>,
-    plan: Plan,
-    bound: u64,
-    results: &[i64],
-    cells: &mut [i32],
-) {
-    carried(to, carry::carry_series(plan, bound, results, cells));
-    output::samples(to, cells);
-    output::end_line(to);
+// Call 15.
+pub fn carry_series<R: Read, W: Write>(stream: &mut Stream<R, W>) -> Result<(), Ended> {
+    let plan = stream.plan()?;
+    let bound = stream.word()?;
+    carried(stream, |results, cells| { carry::carry_series(plan, bound, results, cells) })
 }
 
-// Calls 10, 16 and 110.
-fn picture<R: Read, W: Write>(
-    from: &mut R,
-    to: &mut Lines<W>,
-    open: &mut bool,
-    number: u64,
-    results: &mut [i64],
-    cells: &mut [i32],
-) {
-    let picture = input::picture(from, open);
-    let mode = mode_of(from, open, number);
-    let n = input::wholes(from, to, open, results);
-    let count = input::samples(from, to, open, cells);
-    if *open {
-        match number {
-            10 => rounded_of_picture(to, picture, mode, &results[..n], &mut cells[..count]),
-            16 => carried_of_picture(to, picture, &results[..n], &mut cells[..count]),
-            _ => default_of_picture(to, picture, &results[..n], &mut cells[..count]),
-        }
-    }
+// Call 16.
+pub fn carry_picture<R: Read, W: Write>(stream: &mut Stream<R, W>) -> Result<(), Ended> {
+    let raster = stream.raster()?;
+    carried(stream, |results, cells| { carry::carry_picture(raster, results, cells) })
 }
 
-fn rounded_of_picture<W: Write>(
-    to: &mut Lines<W>,
-    picture: Raster,
-    mode: u64,
-    results: &[i64],
-    cells: &mut [i32],
-) {
-    output::answer(
-        to,
-        whole::whole_picture_by(
-            picture.across,
-            picture.down,
-            picture.bound,
-            picture.width,
-            picture.height,
-            mode,
-            results,
-            cells,
-        ),
-    );
-    output::samples(to, cells);
-    output::end_line(to);
-}
-
-fn default_of_picture<W: Write>(
-    to: &mut Lines<W>,
-    picture: Raster,
-    results: &[i64],
-    cells: &mut [i32],
-) {
-    output::answer(
-        to,
-        whole::whole_picture(
-            picture.across,
-            picture.down,
-            picture.bound,
-            picture.width,
-            picture.height,
-            results,
-            cells,
-        ),
-    );
-    output::samples(to, cells);
-    output::end_line(to);
-}
-
-fn carried_of_picture<W: Write>(
-    to: &mut Lines<W>,
-    picture: Raster,
-    results: &[i64],
-    cells: &mut [i32],
-) {
-    carried(
-        to,
-        carry::carry_picture(
-            picture.across,
-            picture.down,
-            picture.bound,
-            picture.width,
-            picture.height,
-            results,
-            cells,
-        ),
-    );
-    output::samples(to, cells);
-    output::end_line(to);
-}
-
-fn carried<W: Write>(to: &mut Lines<W>, answer: Carried) {
-    output::first(to, answer.number);
-    output::number(to, answer.position as u64);
-    output::number(to, answer.carry);
+// The same, with what is carried out of the last cell.
+fn carried<R, W, F>(stream: &mut Stream<R, W>, call: F) -> Result<(), Ended>
+where
+    R: Read,
+    W: Write,
+    F: FnOnce(&[i64], &mut [i32]) -> Result<u64, Refusal>,
+    requires { F.IsAlwaysCallable call }
+{
+    let results = stream.slice::<i64>()?;
+    let mut cells = stream.slice::<i32>()?;
+    let answer = call(&results, &mut cells);
+    stream.answer(&answer)?;
+    stream.number(answer.unwrap_or(0))?;
+    stream.print(&cells)?;
+    stream.end_line()
 }

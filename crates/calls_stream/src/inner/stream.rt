@@ -1,0 +1,230 @@
+// A stream: 8-byte words come in, high byte first, and lines of words go out, one space between two.
+ghost use Rattle.std.specs.Prelude.{◌≡◌, ◌≤◌, IfOk, vec_len};
+
+use crate::inner::checksum::checksum;
+use crate::inner::element::Element;
+use plan::{Plan, Raster, Refusal};
+use std::alloc::{AllocError, AllocFailed, Global};
+use std::io;
+use std::io::{ErrorKind, Read, Write};
+use std::num::{f64_from_bits_with_nan, f64_to_bits_with_nan};
+
+// A longer slice ends the stream.
+const MOST_ELEMENTS: u64 = 131072;
+
+// Of a longer slice a checksum is printed.
+const MOST_PRINTED: usize = 64;
+
+// Why there is no next line.
+#[derive(Debug, Drop)]
+pub enum Ended {
+    // No words are left, or they name no call.
+    Closed,
+    TooLong,
+    OutOfMemory,
+    Unwritten(io::Error),
+}
+
+impl From<AllocError> for Ended {
+    fn from(_e: AllocError) -> Ended {
+        Ended::OutOfMemory
+    }
+}
+
+impl<T: Drop> From<AllocFailed<T>> for Ended {
+    fn from(_e: AllocFailed<T>) -> Ended {
+        Ended::OutOfMemory
+    }
+}
+
+impl From<io::Error> for Ended {
+    fn from(e: io::Error) -> Ended {
+        Ended::Unwritten(e)
+    }
+}
+
+// Doubles, and the words that they were read from: a NaN's own bits cannot be read from it.
+#[derive(Drop)]
+pub struct Doubles {
+    pub values: Vec<f64>,
+    words: Vec<u64>,
+    ghost paired: { vec_len values ≡ vec_len words },
+}
+
+impl Doubles {
+    // Of a NaN, the word that it was read from.
+    fn bits(&self, alloc: Global) -> Result<Vec<u64>, AllocError>
+        ensures { IfOk result (λ v. vec_len v ≡ vec_len self.now.values) }
+    {
+        self.values
+            .iter()
+            .zip(self.words.iter())
+            .map(|(x, word)| if x.is_nan() { *word } else { x.to_bits() })
+            .collect(alloc)
+    }
+}
+
+#[derive(Drop)]
+pub struct Stream<R, W> {
+    alloc: Global,
+    from: R,
+    to: W,
+}
+
+impl<R: Read, W: Write> Stream<R, W> {
+    pub fn new(alloc: Global, from: R, to: W) -> Stream<R, W> {
+        Stream { alloc, from, to }
+    }
+
+    pub fn alloc(&self) -> Global {
+        self.alloc
+    }
+
+    pub fn word(&mut self) -> Result<u64, Ended> {
+        let mut bytes = [0u8; 8];
+        if self.from.read_exact(&mut bytes).is_err() {
+            return Err(Ended::Closed);
+        }
+        Ok(u64::from_be_bytes(bytes))
+    }
+
+    pub fn element<T: Element>(&mut self) -> Result<T, Ended> {
+        Ok(T::from_word(self.word()?))
+    }
+
+    pub fn plan(&mut self) -> Result<Plan, Ended> {
+        let radius = self.word()?;
+        let inner = self.word()?;
+        let edge = self.word()?;
+        let passes = self.word()?;
+        Ok(Plan::new(radius, inner, edge, passes))
+    }
+
+    pub fn raster(&mut self) -> Result<Raster, Ended> {
+        let across = self.plan()?;
+        let down = self.plan()?;
+        let bound = self.word()?;
+        let width = self.word()?;
+        let height = self.word()?;
+        Ok(Raster {
+            across,
+            down,
+            bound,
+            width,
+            height,
+        })
+    }
+
+    // A slice: how many elements it has, and each of them.
+    pub fn slice<T: Element>(&mut self) -> Result<Vec<T>, Ended>
+        ensures { IfOk result (λ v. vec_len v ≤ 131072) }
+    {
+        let count = self.count()?;
+        let mut values = Vec::with_capacity(self.alloc, count)?;
+        for _ in 0..count {
+            values.push(self.element()?)?;
+        }
+        Ok(values)
+    }
+
+    fn count(&mut self) -> Result<usize, Ended>
+        ensures { IfOk result (λ n. n ≤ 131072) }
+    {
+        let count = self.word()?;
+        if count > MOST_ELEMENTS {
+            return Err(Ended::TooLong);
+        }
+        Ok(count as usize)
+    }
+
+    // A slice of doubles, each given as its bits.
+    pub fn doubles(&mut self) -> Result<Doubles, Ended> {
+        let words = self.slice::<u64>()?;
+        let values = words
+            .iter()
+            .map(|word| f64_from_bits_with_nan(*word))
+            .collect(self.alloc)?;
+        Ok(Doubles { values, words })
+    }
+
+    // The first word of a line has no space before it.
+    pub fn first(&mut self, n: u64) -> Result<(), Ended> {
+        Ok(write!(self.to, "{n}")?)
+    }
+
+    pub fn number<T: Element>(&mut self, n: T) -> Result<(), Ended> {
+        Ok(write!(self.to, " {n}")?)
+    }
+
+    // The first two words of a line: what refuses the call, and where. Both are 0 of a call that is done.
+    pub fn answer<T>(&mut self, answer: &Result<T, Refusal>) -> Result<(), Ended> {
+        let (number, position) = match answer {
+            Ok(_) => (0, 0),
+            Err(refusal) => (refusal.number(), refusal.position()),
+        };
+        self.first(number)?;
+        self.number(position as u64)
+    }
+
+    // How many samples are bad.
+    pub fn bad<T>(&mut self, answer: &Result<T, Refusal>) -> Result<(), Ended> {
+        let bad = match answer {
+            Ok(_) => 0,
+            Err(refusal) => refusal.bad(),
+        };
+        self.number(bad as u64)
+    }
+
+    // A double is printed as its bits.
+    pub fn double(&mut self, x: f64) -> Result<(), Ended> {
+        self.number(f64_to_bits_with_nan(x))
+    }
+
+    pub fn print<T: Element>(&mut self, values: &[T]) -> Result<(), Ended> {
+        if values.len() > MOST_PRINTED {
+            self.in_short(values.len(), checksum(values))
+        } else {
+            self.each(values)
+        }
+    }
+
+    // A long slice: its length and checksum.
+    fn in_short(&mut self, length: usize, checksum: u64) -> Result<(), Ended> {
+        Ok(write!(self.to, " # {length} {checksum}")?)
+    }
+
+    fn each<T: Element>(&mut self, values: &[T]) -> Result<(), Ended> {
+        for x in values {
+            self.number(*x)?;
+        }
+        Ok(())
+    }
+
+    pub fn print_doubles(&mut self, doubles: &Doubles) -> Result<(), Ended> {
+        self.print(&doubles.bits(self.alloc)?)
+    }
+
+    pub fn end_line(&mut self) -> Result<(), Ended> {
+        Ok(writeln!(self.to)?)
+    }
+
+    // What the writer holds back is written too, unless a write failed.
+    pub fn end(mut self, ended: Ended) -> io::Result<()>
+    where
+        R: Drop,
+        W: Drop,
+    {
+        match ended {
+            Ended::Closed => self.to.flush(),
+            Ended::TooLong => {
+                writeln!(self.to, "stop")?;
+                self.to.flush()
+            }
+            Ended::OutOfMemory => {
+                self.to.flush()?;
+                Err(io::Error::from(ErrorKind::OutOfMemory))
+            }
+            Ended::Unwritten(e) => Err(e),
+        }
+    }
+}
