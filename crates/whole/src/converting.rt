@@ -3,32 +3,36 @@ ghost use Rattle.std.specs.Prelude.{◌≡◌, map, length};
 ghost use Rattle.meaning.specs.Values as meant;
 ghost use Rattle.theory.specs.Rounded.{goes_up};
 ghost use Rattle.outputs.specs.Ready.{Quotient, Convertible};
+ghost use Rattle.whole.specs.Mode.{mode_of};
 
-use crate::EVEN;
+use crate::mode::Rounding;
 
-// Whether the half above this number goes up: in mode 0 where this number is odd, in any other always.
-fn goes_up(mode: u64, below: i64) -> bool
-    ensures { result ≡ goes_up mode below }
+// Whether the half above this number goes up: to the even neighbour only where this number is odd.
+fn goes_up(rounding: Rounding, below: i64) -> bool
+    ensures { result ≡ goes_up (mode_of rounding) below }
 {
-    (mode != EVEN) | (below % 2 != 0)
+    match rounding {
+        Rounding::Even => below % 2 != 0,
+        Rounding::Upward => true,
+    }
 }
 
 // The nearest whole number: the one below, or past the half the one above. A half that goes up is past it.
-fn rounded(mode: u64, res: i64, divisor: u64) -> i32
+fn rounded(rounding: Rounding, res: i64, divisor: u64) -> i32
     requires { Quotient res divisor }
-    ensures { result ≡ meant.rounded mode res divisor }
+    ensures { result ≡ meant.rounded (mode_of rounding) res divisor }
 {
     let below = quotient::inner::floor(res, divisor);
     let rest = quotient::inner::rest(res, below, divisor);
-    if 2 * rest + goes_up(mode, below) as u64 <= divisor {
+    if 2 * rest + u64::from(goes_up(rounding, below)) <= divisor {
         return below as i32;
     }
     (below + 1) as i32
 }
 
-pub(crate) fn whole_into(divisor: u64, mode: u64, results: &[i64], cells: &mut [i32])
+pub(crate) fn whole_into(divisor: u64, rounding: Rounding, results: &[i64], cells: &mut [i32])
     requires { Convertible divisor results.now (length cells.old) }
-    ensures { cells.new ≡ map (λ z. meant.rounded mode z divisor) results.now }
+    ensures { cells.new ≡ map (λ z. meant.rounded (mode_of rounding) z divisor) results.now }
 {
-    cells::inner::map_into(results, cells, |res| rounded(mode, res, divisor));
+    cells::inner::map_into(results, cells, |res| rounded(rounding, res, divisor));
 }

@@ -5,7 +5,8 @@ ghost use Rattle.meaning.specs.Values as meant;
 ghost use Rattle.plan.specs.Structs.{stages_of, answer_of};
 ghost use Rattle.plan.specs.Contract.{Gives};
 
-use plan::{Answer, Plan};
+use mode::Rounding;
+use plan::{Plan, Raster, Refusal};
 
 mod converting;
 mod mode;
@@ -23,22 +24,22 @@ pub fn whole_series_by(
     mode: u64,
     results: &[i64],
     cells: &mut [i32],
-) -> Answer
+) -> Result<(), Refusal>
     ensures { Gives (meant.whole_series_by (stages_of plan) bound mode results.now cells.old) (answer_of result) cells.new }
 {
-    let answer = mode::tested(
-        outputs::inner::series(plan, bound, results, cells.len()),
-        mode,
-    );
-    if answer.number != 0 {
-        return answer;
-    }
-    converting::whole_into(plan.divisor(), mode, results, cells);
-    answer
+    let divisor = outputs::inner::series(plan, bound, results, cells.len())?;
+    let rounding = Rounding::try_from(mode)?;
+    converting::whole_into(divisor, rounding, results, cells);
+    Ok(())
 }
 
 // The same, a half going to the even neighbour.
-pub fn whole_series(plan: Plan, bound: u64, results: &[i64], cells: &mut [i32]) -> Answer
+pub fn whole_series(
+    plan: Plan,
+    bound: u64,
+    results: &[i64],
+    cells: &mut [i32],
+) -> Result<(), Refusal>
     ensures { Gives (meant.whole_series (stages_of plan) bound results.now cells.old) (answer_of result) cells.new }
 {
     whole_series_by(plan, bound, EVEN, results, cells)
@@ -46,39 +47,22 @@ pub fn whole_series(plan: Plan, bound: u64, results: &[i64], cells: &mut [i32]) 
 
 // Of a picture, by a mode, over the product of both divisors.
 pub fn whole_picture_by(
-    across: Plan,
-    down: Plan,
-    bound: u64,
-    width: u64,
-    height: u64,
+    raster: Raster,
     mode: u64,
     results: &[i64],
     cells: &mut [i32],
-) -> Answer
-    ensures { Gives (meant.whole_picture_by (stages_of across) (stages_of down) bound width height mode results.now cells.old) (answer_of result) cells.new }
+) -> Result<(), Refusal>
+    ensures { Gives (meant.whole_picture_by (stages_of raster.across) (stages_of raster.down) raster.bound raster.width raster.height mode results.now cells.old) (answer_of result) cells.new }
 {
-    let answer = mode::tested(
-        outputs::inner::picture(across, down, bound, width, height, results, cells.len()),
-        mode,
-    );
-    if answer.number != 0 {
-        return answer;
-    }
-    converting::whole_into(across.divisor() * down.divisor(), mode, results, cells);
-    answer
+    let divisor = outputs::inner::picture(raster, results, cells.len())?;
+    let rounding = Rounding::try_from(mode)?;
+    converting::whole_into(divisor, rounding, results, cells);
+    Ok(())
 }
 
 // The same of a picture, a half going to the even neighbour.
-pub fn whole_picture(
-    across: Plan,
-    down: Plan,
-    bound: u64,
-    width: u64,
-    height: u64,
-    results: &[i64],
-    cells: &mut [i32],
-) -> Answer
-    ensures { Gives (meant.whole_picture (stages_of across) (stages_of down) bound width height results.now cells.old) (answer_of result) cells.new }
+pub fn whole_picture(raster: Raster, results: &[i64], cells: &mut [i32]) -> Result<(), Refusal>
+    ensures { Gives (meant.whole_picture (stages_of raster.across) (stages_of raster.down) raster.bound raster.width raster.height results.now cells.old) (answer_of result) cells.new }
 {
-    whole_picture_by(across, down, bound, width, height, EVEN, results, cells)
+    whole_picture_by(raster, EVEN, results, cells)
 }
