@@ -60,10 +60,10 @@ fn stage_more(plan: Plan, src: &[i64], dst: &mut [i64])
     let edge = plan.edge as i64;
     let mut w = first_window(src, radius);
     let mut lo = tap_at(src, radius + 1);
-    for n in 0..src.len() {
+    for (n, tap) in dst.iter_mut().enumerate() {
         let first = tap_at(src, n.abs_diff(radius));
         let hi = tap_at(src, n + radius + 1);
-        dst[n] = cell(inner, edge, w, lo, hi);
+        *tap = cell(inner, edge, w, lo, hi);
         w = slide(w, hi, first);
         lo = first;
     }
