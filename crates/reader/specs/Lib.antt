@@ -1,3 +1,3 @@
 -- The words of this crate's contracts.
---   Reading   a field's answer, and the reader as the code goes: by places in the record
+--   Reading   a field that was taken off the front of a record
 pub mod Reading

@@ -1,69 +1,44 @@
-// The fields of a record, taken apart one by one.
-ghost use Rattle.std.specs.Prelude.{◌≡◌, ◌^◌, ◌≤◌, ◌<◌, length, drop};
+// The fields of a record, taken off its front one by one.
+ghost use Rattle.std.specs.Prelude.{◌≡◌, ◌≤◌, false, true, length, drop, MatchOption};
 ghost use Rattle.meaning.specs.Record as M;
-ghost use Rattle.reader.specs.Reading.{number_field, samples_field};
+ghost use Rattle.reader.specs.Reading.{Taken};
 
 use record::Job;
 
-// The number in a field, and the place behind it.
-#[derive(Clone, Copy)]
-pub(crate) enum Field {
-    Number(u64, usize),
-    Other,
-}
-
-// Where the samples start, and how many bytes they are.
-#[derive(Clone, Copy)]
-pub(crate) enum Stretch {
-    Samples(usize, usize),
-    Other,
-}
-
-// Is there a field of this tag and so many bytes at `at`?
-fn begins(bytes: &[u8], at: usize, tag: u64, size: usize) -> bool
-    requires { (at ≤ length bytes.now) × (size < 2 ^ 63) }
-    ensures { result ≡ M.begins tag size (drop at bytes.now) }
+// What follows the head of a field of this tag and so many bytes, where they begin with one.
+fn after_head(bytes: &[u8], tag: u8, size: usize) -> Option<&[u8]>
+    ensures { MatchOption result (M.begins tag size bytes.now ≡ false) (λ rest. (M.begins tag size bytes.now ≡ true) × (rest.now ≡ drop 3 bytes.now)) }
 {
-    if bytes.len() - at < 3 + size {
-        return false;
+    let (&[first, high, low], rest) = bytes.split_first_chunk::<3>()?;
+    if rest.len() < size {
+        return None;
     }
-    if encoding::inner::number_at(bytes, at, 1) != tag {
-        return false;
+    if first != tag {
+        return None;
     }
-    encoding::inner::number_at(bytes, at + 1, 2) == size as u64
+    if usize::from(u16::from_be_bytes([high, low])) != size {
+        return None;
+    }
+    Some(rest)
 }
 
-pub(crate) fn number_field(bytes: &[u8], at: usize, tag: u64, size: usize) -> Field
-    requires { (at ≤ length bytes.now) × (size ≤ 8) }
-    ensures { result ≡ number_field tag size at bytes.now }
+// The bytes in a field of this tag, and what follows the field.
+pub(crate) fn field<const N: usize>(bytes: &[u8], tag: u8) -> Option<(&[u8; N], &[u8])>
+    ensures { MatchOption result (M.begins tag N bytes.now ≡ false) (λ p. Taken tag N bytes.now p.0.now p.1.now) }
 {
-    if !begins(bytes, at, tag, size) {
-        return Field::Other;
-    }
-    Field::Number(
-        encoding::inner::number_at(bytes, at + 3, size),
-        at + 3 + size,
-    )
+    after_head(bytes, tag, N)?.split_first_chunk::<N>()
 }
 
-// The samples take all that is left, so nothing can trail them.
-pub(crate) fn samples_field(bytes: &[u8], at: usize) -> Stretch
-    requires { at ≤ length bytes.now }
-    ensures { result ≡ samples_field at bytes.now }
+// The bytes of the samples. They take all that is left, so nothing can trail them.
+pub(crate) fn samples_field(bytes: &[u8]) -> Option<&[u8]>
+    ensures { MatchOption result (M.holds_samples bytes.now ≡ false) (λ samples. (M.holds_samples bytes.now ≡ true) × (samples.now ≡ drop 3 bytes.now)) }
 {
-    let left = bytes.len() - at;
-    if left < 3 {
-        return Stretch::Other;
+    let samples = after_head(bytes, 6, bytes.len().saturating_sub(3))?;
+    if samples.len() % 4 != 0 {
+        return None;
     }
-    let size = left - 3;
-    if size % 4 != 0 {
-        return Stretch::Other;
+    if plan::inner::outside(1, Job::MAX_SAMPLES, (samples.len() / 4) as u64) {
+        return None;
     }
-    if plan::inner::outside(1, Job::MAX_SAMPLES, (size / 4) as u64) {
-        return Stretch::Other;
-    }
-    if !begins(bytes, at, 6, size) {
-        return Stretch::Other;
-    }
-    Stretch::Samples(at + 3, size)
+    Some(samples)
 }
