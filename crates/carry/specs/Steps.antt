@@ -1,6 +1,6 @@
--- One cell, and the two ends of a call whose test answered a, of any shape.
+-- One cell, and the two ends of a call, of any shape.
 -- Laws: cell_dividend, sum_fits, cell_fits (a result and its carry, and their cell, are small enough); carry_refused, carry_done.
-use Rattle.std.specs.Prelude.{ℕ, ◌≡◌, List, length, ℤ, pos, ◌+ℤ◌}
+use Rattle.std.specs.Prelude.{ℕ, ◌≡◌, refl, List, length, ℤ, pos, ◌+ℤ◌}
 use Rattle.std.proofs.Math.Path.{sym}
 use Rattle.std.proofs.Common.{◌∙◌, arith, SFits}
 use Rattle.std.specs.Int.{w32, w64}
@@ -8,11 +8,13 @@ use Rattle.algebra.specs.Order.{zarith, of+}
 use Rattle.algebra.specs.Size.{of_abs, fits_abs}
 use Rattle.meaning.specs.Extension.{at}
 use Rattle.meaning.specs.Smoothing.{list_of}
-use Rattle.meaning.specs.Refusals.{Answer, first_of, Shape}
+use Rattle.meaning.specs.Refusals.{first_of, Shape}
 use Rattle.meaning.specs.Values.{output_rows}
 use Rattle.meaning.specs.Carry.{carry, carry_cell, carried}
 use Rattle.theory.specs.Refusals.{if_done_done, if_done_refused}
 use Rattle.theory.specs.Carry.{carry_below, carry_size}
+use Rattle.plan.specs.declared.Refusal.{Refusal}
+use Rattle.plan.specs.Structs.{plain, refused, refused_number}
 use Rattle.quotient.specs.Ready.{Dividend}
 use Rattle.outputs.specs.Ready.{Quotient}
 use Rattle.carry.specs.Contract.{Gives}
@@ -30,11 +32,11 @@ module _ {d : ℕ} (r : List ℤ) (n : ℕ) (h : Quotient (at r n) d) where
   cell_fits = fits_abs (record { bound = carry_size h.divisor.0 r n h.size }) (omega (arith, h.most))
 
 -- ---- the two ends of a call
-module _ (s : Shape) (M : ℕ) (r cells : List ℤ) {a : Answer} (e : a ≡ first_of (output_rows s M r (length cells))) {b : Answer} {k : ℕ} (same : b ≡ a) where
-  pub carry_refused : (a.number ≡ 0 → ⊥) → k ≡ 0 → Gives (carried s M r cells) b k cells
+module _ (s : Shape) (M : ℕ) (r cells : List ℤ) where
+  pub carry_refused : (e : Refusal) → refused e ≡ first_of (output_rows s M r (length cells)) → Gives (carried s M r cells) (refused e) 0 cells
   unfolding carried
-  carry_refused h l = rw (← e) (record { answer = same; carry = l ∙ sym (if_done_refused a _ 0 h); cells = sym (if_done_refused a _ cells h) })
+  carry_refused e h = rw (← h) (record { answer = refl; carry = sym (if_done_refused (refused e) _ 0 (refused_number e)); cells = sym (if_done_refused (refused e) _ cells (refused_number e)) })
 
-  pub carry_done : a.number ≡ 0 → {d : ℕ} → d ≡ s.divisor → k ≡ carry d r (length r) → {left : List ℤ} → left ≡ list_of (length r) (carry_cell d r) → Gives (carried s M r cells) b k left
+  pub carry_done : plain 0 ≡ first_of (output_rows s M r (length cells)) → {d k : ℕ} → d ≡ s.divisor → k ≡ carry d r (length r) → {left : List ℤ} → left ≡ list_of (length r) (carry_cell d r) → Gives (carried s M r cells) (plain 0) k left
   unfolding carried
-  carry_done z f l m = rw (← e) (record { answer = same; carry = l ∙ rw f (sym (if_done_done a _ 0 z)); cells = m ∙ rw f (sym (if_done_done a _ cells z)) })
+  carry_done h f l m = rw (← h) (record { answer = refl; carry = l ∙ rw f (sym (if_done_done (plain 0) _ 0 refl)); cells = m ∙ rw f (sym (if_done_done (plain 0) _ cells refl)) })

@@ -1,7 +1,8 @@
--- The code's answer, as the definitions have it.
---   answer_of c   number and position
-use Rattle.meaning.specs.Refusals.{Answer}
-use Rattle.carry.specs.declared.Carried.{Carried}
+-- The code's carry, as the definitions have it.
+--   carry_of r   what the last cell leaves, 0 where the call is refused
+use Rattle.std.specs.Prelude.{ℕ, Result}
+use Rattle.plan.specs.declared.Refusal.{Refusal}
+use Rattle.plan.specs.Structs.{value_or}
 
-abbrev pub answer_of : Carried → Answer
-answer_of c = record { number = c.number; position = c.position; bad = 0 }
+abbrev pub carry_of : Result ℕ Refusal → ℕ
+carry_of = value_or 0

@@ -2,22 +2,7 @@
 ghost use Rattle.std.specs.Prelude.{◌≡◌, length};
 ghost use Rattle.meaning.specs.Smoothing.{list_of};
 ghost use Rattle.meaning.specs.Carry as meant;
-ghost use Rattle.plan.specs.Structs as plan;
 ghost use Rattle.outputs.specs.Ready.{Convertible};
-ghost use Rattle.carry.specs.Structs.{answer_of};
-
-use crate::Carried;
-use plan::Answer;
-
-pub(crate) fn carried(answer: Answer, carry: u64) -> Carried
-    ensures { (answer_of result ≡ plan.answer_of answer) × (result.carry ≡ carry) }
-{
-    Carried {
-        number: answer.number,
-        position: answer.position,
-        carry,
-    }
-}
 
 // The carry that the last cell leaves.
 pub(crate) fn carry_into(divisor: u64, results: &[i64], cells: &mut [i32]) -> u64

@@ -1,5 +1,4 @@
 -- Before cell n the carry is the one before it, and the first n cells are written.
-use Prim.Native.Nat.{◌-◌, ◌≤◌}
 use mathlib.Core.Path.{◌≡◌}
 use lib.ListN.{length, take}
 use Rattle.meaning.specs.Smoothing.{list_of}
