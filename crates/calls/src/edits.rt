@@ -11,7 +11,15 @@ pub(crate) fn edit_series<R: Read, W: Write>(stream: &mut Stream<R, W>) -> Resul
     let mut samples = stream.slice::<i32>()?;
     let mut results = stream.slice::<i64>()?;
     let mut work = stream.slice::<i64>()?;
-    let answer = edit::edit_series(plan, bound, position, value, &mut samples, &mut results, &mut work);
+    let answer = edit::edit_series(
+        plan,
+        bound,
+        position,
+        value,
+        &mut samples,
+        &mut results,
+        &mut work,
+    );
     stream.answer(&answer)?;
     stream.number(answer.unwrap_or(0) as u64)?;
     stream.bad(&answer)?;

@@ -20,13 +20,17 @@ pub fn doubles_in<R: Read, W: Write>(stream: &mut Stream<R, W>) -> Result<(), En
 pub fn doubles_series<R: Read, W: Write>(stream: &mut Stream<R, W>) -> Result<(), Ended> {
     let plan = stream.plan()?;
     let bound = stream.word()?;
-    doubled(stream, |results, cells| { doubles::doubles_series(plan, bound, results, cells) })
+    doubled(stream, |results, cells| {
+        doubles::doubles_series(plan, bound, results, cells)
+    })
 }
 
 // Call 11.
 pub fn doubles_picture<R: Read, W: Write>(stream: &mut Stream<R, W>) -> Result<(), Ended> {
     let raster = stream.raster()?;
-    doubled(stream, |results, cells| { doubles::doubles_picture(raster, results, cells) })
+    doubled(stream, |results, cells| {
+        doubles::doubles_picture(raster, results, cells)
+    })
 }
 
 // Call 25.

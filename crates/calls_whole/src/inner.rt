@@ -8,27 +8,35 @@ pub fn whole_series_by<R: Read, W: Write>(stream: &mut Stream<R, W>) -> Result<(
     let plan = stream.plan()?;
     let bound = stream.word()?;
     let mode = stream.word()?;
-    rounded(stream, |results, cells| { whole::whole_series_by(plan, bound, mode, results, cells) })
+    rounded(stream, |results, cells| {
+        whole::whole_series_by(plan, bound, mode, results, cells)
+    })
 }
 
 // Call 10.
 pub fn whole_picture_by<R: Read, W: Write>(stream: &mut Stream<R, W>) -> Result<(), Ended> {
     let raster = stream.raster()?;
     let mode = stream.word()?;
-    rounded(stream, |results, cells| { whole::whole_picture_by(raster, mode, results, cells) })
+    rounded(stream, |results, cells| {
+        whole::whole_picture_by(raster, mode, results, cells)
+    })
 }
 
 // Call 107.
 pub fn whole_series<R: Read, W: Write>(stream: &mut Stream<R, W>) -> Result<(), Ended> {
     let plan = stream.plan()?;
     let bound = stream.word()?;
-    rounded(stream, |results, cells| { whole::whole_series(plan, bound, results, cells) })
+    rounded(stream, |results, cells| {
+        whole::whole_series(plan, bound, results, cells)
+    })
 }
 
 // Call 110.
 pub fn whole_picture<R: Read, W: Write>(stream: &mut Stream<R, W>) -> Result<(), Ended> {
     let raster = stream.raster()?;
-    rounded(stream, |results, cells| { whole::whole_picture(raster, results, cells) })
+    rounded(stream, |results, cells| {
+        whole::whole_picture(raster, results, cells)
+    })
 }
 
 // Results and cells are read, and what the call makes of them is printed.
@@ -51,13 +59,17 @@ where
 pub fn carry_series<R: Read, W: Write>(stream: &mut Stream<R, W>) -> Result<(), Ended> {
     let plan = stream.plan()?;
     let bound = stream.word()?;
-    carried(stream, |results, cells| { carry::carry_series(plan, bound, results, cells) })
+    carried(stream, |results, cells| {
+        carry::carry_series(plan, bound, results, cells)
+    })
 }
 
 // Call 16.
 pub fn carry_picture<R: Read, W: Write>(stream: &mut Stream<R, W>) -> Result<(), Ended> {
     let raster = stream.raster()?;
-    carried(stream, |results, cells| { carry::carry_picture(raster, results, cells) })
+    carried(stream, |results, cells| {
+        carry::carry_picture(raster, results, cells)
+    })
 }
 
 // The same, with what is carried out of the last cell.
