@@ -23,7 +23,7 @@ use Rattle.meaning.specs.Bounds.{AllowedPlan, WholeDouble}
 use Rattle.theory.specs.Refusals.{first_on, off_done, refused_first, done_rest, plan_numbered}
 use Rattle.theory.specs.Accepted.{allowed_plan, plan_rows_lem}
 use Rattle.theory.specs.Arguments.{whole_other, plan_other, refused_by_passes, refused_by_bound}
-use Rattle.plan.specs.Structs.{checked_answer, edit_answer, point_answer}
+use Rattle.plan.specs.Structs.{answer_of}
 use Rattle.series.specs.Contract as smoothing
 use Rattle.edit.specs.Contract as editing
 use Rattle.arguments.specs.Numbers.{numbers_of}
@@ -94,7 +94,7 @@ pub host_smooth_series_one : (c d : SmoothSeriesHost) → smooth_series_given c 
 host_smooth_series_one c d e = smooth_is c.learnt ∙ ap (λ (x : SeriesGiven). series_outcome (series_taken x)) e ∙ sym (smooth_is d.learnt)
 
 pub host_smooth_series_is : (h : SmoothSeriesHost) (c : SeriesCall) → smooth_series_taken h ≡ (numbers_of (series.plan c), series.bound c, series.samples c, series.results c, series.work c)
-    → smooth_series_left h ≡ record { answer = checked_answer c.answered; results = series.results_left c; work = series.work_left c }
+    → smooth_series_left h ≡ record { answer = answer_of c.answered; results = series.results_left c; work = series.work_left c }
 host_smooth_series_is h c e = smooth_is h.learnt ∙ ap series_outcome e ∙ sym (smooth_is c.learnt)
 
 -- ---- smoothing a picture: plans across and down, bound, width, height, samples, results, work
@@ -128,7 +128,7 @@ host_smooth_picture_one c d e = smooth_is c.learnt ∙ ap (λ (x : PictureGiven)
 
 pub host_smooth_picture_is : (h : SmoothPictureHost) (c : PictureCall)
     → smooth_picture_taken h ≡ (numbers_of (pictures.across c), numbers_of (pictures.down c), pictures.bound c, pictures.width c, pictures.height c, pictures.samples c, pictures.results c, pictures.work c)
-    → smooth_picture_left h ≡ record { answer = checked_answer c.answered; results = pictures.results_left c; work = pictures.work_left c }
+    → smooth_picture_left h ≡ record { answer = answer_of c.answered; results = pictures.results_left c; work = pictures.work_left c }
 host_smooth_picture_is h c e = smooth_is h.learnt ∙ ap picture_outcome e ∙ sym (smooth_is c.learnt)
 
 -- ---- an edit: plan, bound, position, value, samples, results
@@ -183,7 +183,7 @@ unfolding edit_series
 edit_work x w n = rw (asked_length (stages x.0) (length x.4), n)
 
 pub host_edit_is : (h : EditSeriesHost) (c : EditCall) → edit_series_taken h ≡ (numbers_of (edits.plan c), edits.bound c, edits.position c, edits.value c, edits.samples c, edits.results c)
-    → length (edits.work c) ≡ edit_room (edits.stages c) (length (edits.samples c)) → edit_series_left h ≡ (edit_answer c.answered, edits.count c, edits.samples_left c, edits.results_left c)
+    → length (edits.work c) ≡ edit_room (edits.stages c) (length (edits.samples c)) → edit_series_left h ≡ (answer_of c.answered, edits.count c, edits.samples_left c, edits.results_left c)
 host_edit_is h c e n =
     edit_is h.learnt ∙ ap (λ (x : EditTaken). edit_outcome x (asked_by x.0 x.4)) e
     ∙ edit_work (numbers_of (edits.plan c), edits.bound c, edits.position c, edits.value c, edits.samples c, edits.results c) (edits.work c) n ∙ sym (edit_work_is c.learnt)
@@ -227,7 +227,7 @@ unfolding point
 point_work x w n = rw (asked_length (stages x.0) (length x.3), n)
 
 pub host_point_is : (h : PointHost) (c : PointCall) → point_taken h ≡ (numbers_of (points.plan c), points.bound c, points.position c, points.samples c)
-    → length (points.work c) ≡ edit_room (points.stages c) (length (points.samples c)) → point_left h ≡ (point_answer c.answered, points.value c)
+    → length (points.work c) ≡ edit_room (points.stages c) (length (points.samples c)) → point_left h ≡ (answer_of c.answered, points.value c)
 host_point_is h c e n =
     point_is h.learnt ∙ ap (λ (x : PointTaken). point_outcome x (asked_by x.0 x.3)) e
     ∙ point_work (numbers_of (points.plan c), points.bound c, points.position c, points.samples c) (points.work c) n

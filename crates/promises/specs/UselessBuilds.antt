@@ -34,7 +34,7 @@ use Rattle.meaning.specs.Record.{Job, field, sample_bytes, record_of, begins, re
 use Rattle.theory.specs.OwnRows.{own_rest}
 use Rattle.plan.specs.declared.Plan.{Plan}
 use Rattle.plan.specs.declared.Point.{Point}
-use Rattle.plan.specs.Structs.{stage_of, stages_of, edit_answer, point_answer, point_of_done}
+use Rattle.plan.specs.Structs.{stage_of, stages_of, answer_of, point_answer, point_of_done}
 use Rattle.edit.specs.Contract.{Gives}
 use Rattle.promises.specs.Smoothings.{number_done}
 use Rattle.promises.specs.SmoothSeries as series
@@ -141,8 +141,8 @@ unfolding edit_series edit_rows gained changed count_where if_done near reach we
 set_to_0 w n = rw n refl
 
 module _ (c : EditCall) where
-  gives : {v : ℤ} → GivenEdit v c → Gives (edited v (edits.work c)) (edit_answer c.answered) (edits.count c) (edits.samples_left c) (edits.results_left c) (edits.work_left c)
-  gives h = subst (λ (o : Edited). Gives o (edit_answer c.answered) (edits.count c) (edits.samples_left c) (edits.results_left c) (edits.work_left c)) (edit_same _ h.plan h.bound h.position h.value h.samples h.results) c.learnt
+  gives : {v : ℤ} → GivenEdit v c → Gives (edited v (edits.work c)) (answer_of c.answered) (edits.count c) (edits.samples_left c) (edits.results_left c) (edits.work_left c)
+  gives h = subst (λ (o : Edited). Gives o (answer_of c.answered) (edits.count c) (edits.samples_left c) (edits.results_left c) (edits.work_left c)) (edit_same _ h.plan h.bound h.position h.value h.samples h.results) c.learnt
 
   pub edit_not_refused : GivenEdit (pos 3) c → edits.number c ≡ 0
   edit_not_refused h = ap (λ (a : meant.Answer). a.number) (gives h).answer ∙ (set_to_3 _ h.work).0
@@ -221,8 +221,8 @@ page_number : (read_record page).answer.number ≡ 0
 unfolding record_of field bytes sample_bytes read_record begins reading number
 page_number = refl
 
-pub read_not_refused : (c : ReadCall) → records.bytes c ≡ page → (records.job c).number ≡ 0
+pub read_not_refused : (c : ReadCall) → records.bytes c ≡ page → (records.job c).answer.number ≡ 0
 read_not_refused c e = ap (λ (j : Job). j.answer.number) (c.learnt ∙ ap read_record e) ∙ page_number
 
-pub write_not_refused : (c : WriteCall) → records.count c ≡ 3 → length (records.room c) ≡ 39 → c.answered.number ≡ 0
+pub write_not_refused : (c : WriteCall) → records.count c ≡ 3 → length (records.room c) ≡ 39 → (answer_of c.answered).number ≡ 0
 write_not_refused c n r = records.done_write c (omega (arith, n)) (omega (arith, n)) (r ∙ sym (ap record_size n))
