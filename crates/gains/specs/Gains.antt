@@ -8,22 +8,26 @@
 --   ChangesIn xs L p d r a k left   the answer a, the count k and the results left of an edit by xs under the limit L
 --   Gainable xs N p d      room for every weight and every gain
 --   Writable               room for every result that is written
--- Laws: gain_fits, sum_fits; length_gained_in, gained_inside, gained_before, gained_behind;
+-- Laws: gain_fits, sum_fits, refused_is; length_gained_in, gained_before, gained_behind; moved_fits, moved_written (a turn of the walk that writes);
 -- by_refused, by_writable, by_done (the two ends of an edit by taps).
-use Rattle.std.specs.Prelude.{ℕ, ◌*◌, ◌-◌, ◌≤◌, ◌<◌, ◌≡◌, Bool, cond, ◌||◌, List, [], ◌∷◌, eqb, length, ℤ, nat_abs, ◌+ℤ◌, ◌*ℤ◌}
+use Rattle.std.specs.Prelude.{ℕ, ◌*◌, ◌-◌, ◌≤◌, ◌<◌, ◌≡◌, Bool, cond, ◌||◌, List, [], ◌∷◌, eqb, length, ℤ, nat_abs, ◌+ℤ◌, ◌*ℤ◌, refl, Result, IsErrAnd}
 use Rattle.std.proofs.Math.Path.{sym}
-use Rattle.std.proofs.Common.{arith, SFits}
+use Rattle.std.proofs.Common.{◌∙◌, arith, SFits}
 use borrow.Author.Tests.{ltb-false}
+use Rattle.std.proofs.lemmas.Result.{err_from_is_err_and}
 use Rattle.std.specs.Int.{w64}
 use Rattle.algebra.specs.Size.{Abs, abs-+, fits_abs}
 use Rattle.meaning.specs.Limits.{max_result}
 use Rattle.meaning.specs.Extension.{at}
 use Rattle.meaning.specs.Smoothing.{list_of}
-use Rattle.meaning.specs.Refusals.{Answer, first_of, row_at, within, above, if_done}
+use Rattle.meaning.specs.Refusals.{Answer, Row, first_of, row_at, within, above, if_done}
 use Rattle.theory.specs.Lists.{length_list_of, at_list_of}
-use Rattle.theory.specs.Refusals.{done, Off, done_off, off_done, if_done_refused, number_zero}
+use Rattle.theory.specs.Refusals.{Off, done_off, if_done_refused, number_zero}
+use Rattle.theory.specs.Fill.{Filled}
 use Rattle.theory.specs.Tests.{or_no, within_yes, within_before, within_behind}
 use Rattle.theory.specs.Places.{picked, row_at_none}
+use Rattle.plan.specs.declared.Refusal.{Refusal}
+use Rattle.plan.specs.Structs.{plain, refused, answer_of, value_or, refused_number}
 use Rattle.refusals.specs.Span.{low, high}
 use Rattle.taps.specs.Weigh.{weight_in, Weighable}
 
@@ -73,6 +77,10 @@ gain_fits h {n} l = fits_abs (h.gains n l) (omega arith)
 pub sum_fits : (L : ℕ) (old g : ℤ) → L ≤ max_result → nat_abs old ≤ L → nat_abs g ≤ 2 * max_result → SFits w64 (old +ℤ g)
 sum_fits L old g l h k = fits_abs (abs-+ {a = old} {b = g} (record { bound = h }) (record { bound = k })) (omega arith)
 
+pub refused_is : (L : ℕ) (xs : List ℤ) (p : ℕ) (d : ℤ) (r : List ℤ) (n : ℕ) {b : Bool} → b ≡ (above L (at r n) || above L (at r n +ℤ gain_in xs (length r) p d n)) → refused_in L xs p d r n ≡ b
+unfolding refused_in moved_in
+refused_is L xs p d r n e = sym e
+
 -- ---- the results with their gains
 module _ (xs : List ℤ) (p : ℕ) (d : ℤ) (r : List ℤ) (start end : ℕ) where
   pub length_gained_in : length (gained_in xs p d r start end) ≡ length r
@@ -83,7 +91,7 @@ module _ (xs : List ℤ) (p : ℕ) (d : ℤ) (r : List ℤ) (start end : ℕ) wh
   unfolding gained_in
   at_gained_in n l = at_list_of (length r) _ n l
 
-  pub gained_inside : (n : ℕ) → n < length r → start ≤ n → n < end → moved_in xs p d r n ≡ at (gained_in xs p d r start end) n
+  gained_inside : (n : ℕ) → n < length r → start ≤ n → n < end → moved_in xs p d r n ≡ at (gained_in xs p d r start end) n
   gained_inside n l h k = rw (at_gained_in n l, within_yes start end n h k)
 
   pub gained_before : (n : ℕ) → n < length r → n < start → at r n ≡ at (gained_in xs p d r start end) n
@@ -92,28 +100,41 @@ module _ (xs : List ℤ) (p : ℕ) (d : ℤ) (r : List ℤ) (start end : ℕ) wh
   pub gained_behind : (n : ℕ) → n < length r → end ≤ n → at r n ≡ at (gained_in xs p d r start end) n
   gained_behind n l h = rw (at_gained_in n l, within_behind start end n h)
 
--- ---- an edit by taps, at the code's own numbers: start and end as it found them, c the change as it reads it
-module _ (xs : List ℤ) (L p : ℕ) (d : ℤ) (r : List ℤ) {start end : ℕ} {c : ℤ} {a : Answer} (s : start ≡ start_in xs p) (t : end ≡ end_in xs (length r) p) (u : c ≡ d)
-    (e : a ≡ first_of (row_at 12 (length r) (picked start end (refused_in L xs p c r)) ∷ [])) where
-  answered : a ≡ first_of (row_at 12 (length r) (picked (start_in xs p) (end_in xs (length r) p) (refused_in L xs p d r)) ∷ [])
-  answered = rw (s, t, u) at e
+-- ---- a turn of the walk that writes, where the result at n still is as it was
+module _ {xs : List ℤ} {p : ℕ} {d : ℤ} {r : List ℤ} {start end : ℕ} (h : Writable xs p d r start end) {n : ℕ} (l : start ≤ n) (m : n < end) {left : List ℤ} (f : Filled (gained_in xs p d r start end) r left n) {g : ℤ} (e : g ≡ gain_in xs (length r) p d n) where
+  moved_is : at left n +ℤ g ≡ moved_in xs p d r n
+  unfolding moved_in
+  moved_is = rw (f.rest n (omega arith), e)
 
-  pub by_refused : (a.number ≡ 0 → ⊥) → ChangesIn xs L p d r a 0 r
-  by_refused h = record { answer = answered; count = sym (if_done_refused a _ 0 h); results = sym (if_done_refused a _ r h) }
+  pub moved_fits : SFits w64 (at left n +ℤ g)
+  moved_fits = rw moved_is (fits_abs (h.fits n l m) (omega arith))
 
-  module _ (z : a.number ≡ 0) where
-    none : Off (row_at 12 (length r) (picked start end (refused_in L xs p c r)) ∷ [])
+  pub moved_written : at left n +ℤ g ≡ at (gained_in xs p d r start end) n
+  moved_written = moved_is ∙ gained_inside xs p d r start end n (omega (arith, h.inside)) l m
+
+-- ---- an edit by taps, at the code's own span
+module _ (xs : List ℤ) (L p : ℕ) (d : ℤ) (r : List ℤ) {start end : ℕ} (s : start ≡ start_in xs p) (t : end ≡ end_in xs (length r) p) where
+  abbrev tested : List Row
+  tested = row_at 12 (length r) (picked start end (refused_in L xs p d r)) ∷ []
+
+  answered : {a : Answer} → a ≡ first_of tested → a ≡ first_of (row_at 12 (length r) (picked (start_in xs p) (end_in xs (length r) p) (refused_in L xs p d r)) ∷ [])
+  answered e = rw (s, t) at e
+
+  pub by_refused : (x : Refusal) (q : Result ℕ Refusal) → IsErrAnd q (λ y. y ≡ x) → refused x ≡ first_of tested → ChangesIn xs L p d r (answer_of q) (value_or 0 q) r
+  by_refused x q h e =
+      let o = err_from_is_err_and q h in
+      rw (o.1, o.2) (record { answer = answered e; count = sym (if_done_refused (refused x) _ 0 (refused_number x)); results = sym (if_done_refused (refused x) _ r (refused_number x)) })
+
+  module _ (e : plain 0 ≡ first_of tested) where
+    none : Off tested
     unfolding row_at
-    none = done_off _ tt (number_zero e z)
+    none = done_off _ tt (number_zero e refl)
 
-    passed : (n : ℕ) → start ≤ n → n < end → end ≤ length r → nat_abs (moved_in xs p c r n) ≤ L
+    passed : (n : ℕ) → start ≤ n → n < end → end ≤ length r → nat_abs (moved_in xs p d r n) ≤ L
     unfolding refused_in
-    passed n h k l = ltb-false _ _ (or_no (above L (at r n)) (above L (moved_in xs p c r n)) (rw (within_yes start end n h k) at (row_at_none 12 (length r) _ none.0 n (omega arith)))).1
+    passed n h k l = ltb-false _ _ (or_no (above L (at r n)) (above L (moved_in xs p d r n)) (rw (within_yes start end n h k) at (row_at_none 12 (length r) _ none.0 n (omega arith)))).1
 
-    none' : Off (row_at 12 (length r) (picked (start_in xs p) (end_in xs (length r) p) (refused_in L xs p d r)) ∷ [])
-    none' = rw (s, t, u) at none
-
-    pub by_writable : L ≤ max_result → Gainable xs (length r) p c → Writable xs p c r start end
+    pub by_writable : L ≤ max_result → Gainable xs (length r) p d → Writable xs p d r start end
     by_writable l g = record {
       order = omega (arith, g.sample);
       inside = omega arith;
@@ -121,6 +142,6 @@ module _ (xs : List ℤ) (L p : ℕ) (d : ℤ) (r : List ℤ) {start end : ℕ} 
       fits = λ n h k. record { bound = omega (arith, passed n h k (omega arith)) };
     }
 
-    pub by_done : {k : ℕ} {left : List ℤ} → k ≡ count_in c start end → left ≡ gained_in xs p c r start end → ChangesIn xs L p d r done k left
+    pub by_done : {k : ℕ} {left : List ℤ} → k ≡ count_in d start end → left ≡ gained_in xs p d r start end → ChangesIn xs L p d r (plain 0) k left
     unfolding if_done
-    by_done h g = record { answer = sym (off_done _ none'); count = rw (s, t, u) at h; results = rw (s, t, u) at g }
+    by_done h g = record { answer = answered e; count = rw (s, t) at h; results = rw (s, t) at g }

@@ -1,0 +1,21 @@
+-- What was tested is written, and nothing before all of it was tested.
+use Rattle.gains.specs.Gains.{by_refused, by_writable, by_done}
+use Rattle.gains.proofs.inner.Edit.apply.Goals as goal
+
+pub returns-in_err-results_allowed : goal.returns-in_err-results_allowed
+returns-in_err-results_allowed c =
+    let e = c.args.self in
+    let s = c.within_reach-span.ensures in
+    by_refused e.taps.now c.args.limit e.p e.change c.args.results.now s.start s.end _ _ c.from_residual.ensures.1 c.in_err-results_allowed.ensures
+
+pub add_gains-requires : goal.add_gains-requires
+add_gains-requires c =
+    let e = c.args.self in
+    let s = c.within_reach-span.ensures in
+    by_writable e.taps.now c.args.limit e.p e.change c.args.results.now s.start s.end c.in_ok-results_allowed.ensures c.requires.0 c.requires.2
+
+pub returns : goal.returns
+returns c =
+    let e = c.args.self in
+    let s = c.within_reach-span.ensures in
+    by_done e.taps.now c.args.limit e.p e.change c.args.results.now s.start s.end c.in_ok-results_allowed.ensures c.count.ensures c.add_gains.ensures
