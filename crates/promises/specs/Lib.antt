@@ -14,6 +14,7 @@
 --   Summaries      the lowest and the highest
 --   Planner        the planner
 --   Plans          a plan's constructor, divisor and reach
+--   Refusals       a refusal's number, position and number of bad samples
 --   Records        the job record's reader and writer, and that each undoes the other
 --   Exact          results as doubles that are the same numbers, and back
 --   Hosts          the calls that other languages have: any of them
@@ -36,6 +37,7 @@ pub mod DoublesOut
 pub mod Summaries
 pub mod Planner
 pub mod Plans
+pub mod Refusals
 pub mod Records
 pub mod Exact
 pub mod Hosts
