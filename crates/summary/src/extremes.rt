@@ -3,13 +3,11 @@ ghost use Rattle.std.specs.Prelude.{◌≡◌, ◌<◌, ◌≤◌, length};
 ghost use Rattle.meaning.specs.Limits.{least};
 ghost use Rattle.meaning.specs.Values as meant;
 ghost use Rattle.theory.specs.Extremes.{Beating};
-ghost use Rattle.plan.specs.Structs.{answer_of};
-ghost use Rattle.summary.specs.Structs.{summary_of, refused_summary, done_summary};
+ghost use Rattle.summary.specs.Structs.{done_of, done_summary};
 ghost use Rattle.outputs.specs.Ready.{Convertible};
 ghost use Rattle.summary.specs.Extremes.{Tells};
 
 use crate::Summary;
-use plan::Answer;
 
 // The first index of a result that no other is ahead of.
 fn first_of<F: Fn(i64, i64) -> bool>(results: &[i64], ahead: F) -> usize
@@ -29,30 +27,16 @@ fn first_of<F: Fn(i64, i64) -> bool>(results: &[i64], ahead: F) -> usize
 }
 
 pub(crate) fn summary(divisor: u64, results: &[i64]) -> Summary
-    requires { (least ≤ length results.now) × Convertible divisor results.now (length results.now) }
-    ensures { summary_of result ≡ done_summary divisor results.now }
+    requires some { least ≤ length results.now }
+    requires convertible { Convertible divisor results.now (length results.now) }
+    ensures { done_of result ≡ done_summary divisor results.now }
 {
     let lowest_at = first_of(results, |x, y| x < y);
     let highest_at = first_of(results, |x, y| x > y);
     Summary {
-        number: 0,
-        position: 0,
         lowest: doubles::inner::ratio(results[lowest_at], divisor),
         highest: doubles::inner::ratio(results[highest_at], divisor),
         lowest_at,
         highest_at,
-    }
-}
-
-pub(crate) fn refused(answer: Answer) -> Summary
-    ensures { summary_of result ≡ refused_summary (answer_of answer) }
-{
-    Summary {
-        number: answer.number,
-        position: answer.position,
-        lowest: 0.0,
-        highest: 0.0,
-        lowest_at: 0,
-        highest_at: 0,
     }
 }

@@ -6,15 +6,13 @@ ghost use Rattle.meaning.specs.Values as meant;
 ghost use Rattle.plan.specs.Structs.{stages_of};
 ghost use Rattle.summary.specs.Structs.{summary_of};
 
-use plan::Plan;
+use plan::{Plan, Raster, Refusal};
 
 mod extremes;
 
-// The lowest and the highest result as doubles, and the first index of each. Refused, plus zero and 0.
+// The lowest and the highest result as doubles, and the first index of each.
 #[derive(Clone, Copy)]
 pub struct Summary {
-    pub number: u64,
-    pub position: usize,
     pub lowest: f64,
     pub highest: f64,
     pub lowest_at: usize,
@@ -22,38 +20,17 @@ pub struct Summary {
 }
 
 // The lowest and the highest of the results.
-pub fn summary_series(plan: Plan, bound: u64, results: &[i64]) -> Summary
+pub fn summary_series(plan: Plan, bound: u64, results: &[i64]) -> Result<Summary, Refusal>
     ensures { summary_of result ≡ meant.summary_series (stages_of plan) bound results.now }
 {
-    let answer = outputs::inner::series(plan, bound, results, results.len());
-    if answer.number != 0 {
-        return extremes::refused(answer);
-    }
-    extremes::summary(plan.divisor(), results)
+    let divisor = outputs::inner::series(plan, bound, results, results.len())?;
+    Ok(extremes::summary(divisor, results))
 }
 
 // The same of a picture, over the product of both divisors.
-pub fn summary_picture(
-    across: Plan,
-    down: Plan,
-    bound: u64,
-    width: u64,
-    height: u64,
-    results: &[i64],
-) -> Summary
-    ensures { summary_of result ≡ meant.summary_picture (stages_of across) (stages_of down) bound width height results.now }
+pub fn summary_picture(raster: Raster, results: &[i64]) -> Result<Summary, Refusal>
+    ensures { summary_of result ≡ meant.summary_picture (stages_of raster.across) (stages_of raster.down) raster.bound raster.width raster.height results.now }
 {
-    let answer = outputs::inner::picture(
-        across,
-        down,
-        bound,
-        width,
-        height,
-        results,
-        results.len(),
-    );
-    if answer.number != 0 {
-        return extremes::refused(answer);
-    }
-    extremes::summary(across.divisor() * down.divisor(), results)
+    let divisor = outputs::inner::picture(raster, results, results.len())?;
+    Ok(extremes::summary(divisor, results))
 }

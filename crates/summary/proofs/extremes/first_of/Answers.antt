@@ -10,15 +10,16 @@ loop-i-init g c = let first : SFits w64 (at c.args.results.now 0) = search rules
 
 pub loop-i-preserved : goal.loop-i-preserved
 loop-i-preserved g c =
-  let r = c.args.results.now in
-  let l = c.loop-i in
-  let next : SFits w64 (at r l.i) = search rules in
-  let held : SFits w64 (at r l.best.0) = search rules in
-  elim c.if-ahead.branch [ 
-    then-ahead w ↦ rw w.best-is (omega arith, to_z-of_z {w = w64} next, λ beats o t. best_next o r (l.invariant.2 beats o t) (rw (l.invariant.1, to_z-of_z {w = w64} next, to_z-of_z {w = w64} held) at (sym (t _ _ _ c.ahead.ensures) ∙ w.if-ahead.true)))
-   | else-ahead w ↦ rw w.best-is (omega arith, l.invariant.1, λ beats o t. best_stays o r (l.invariant.2 beats o t) (rw (l.invariant.1, to_z-of_z {w = w64} next, to_z-of_z {w = w64} held) at (sym (t _ _ _ c.ahead.ensures) ∙ w.if-ahead.false))) ]
+    let r = c.args.results.now in
+    let l = c.loop-i in
+    let next : SFits w64 (at r l.i) = search rules in
+    let held : SFits w64 (at r l.best.0) = search rules in
+    elim c.if-ahead.branch [
+      | then-ahead w ↦ rw w.best-is (omega arith, to_z-of_z {w = w64} next, λ beats o t. best_next o r (l.invariant.2 beats o t) (rw (l.invariant.1, to_z-of_z {w = w64} next, to_z-of_z {w = w64} held) at (sym (t _ _ _ c.ahead.ensures) ∙ w.if-ahead.true)))
+      | else-ahead w ↦ rw w.best-is (omega arith, l.invariant.1, λ beats o t. best_stays o r (l.invariant.2 beats o t) (rw (l.invariant.1, to_z-of_z {w = w64} next, to_z-of_z {w = w64} held) at (sym (t _ _ _ c.ahead.ensures) ∙ w.if-ahead.false)))
+    ]
 
 pub returns : goal.returns
 returns g c =
-  let e : c.loop-i.i ≡ length c.args.results.now = omega arith in
-  record { within = omega arith; first = λ beats o t. sym (best_done o _ (rw e at (c.loop-i.invariant.2 beats o t))) }
+    let e : c.loop-i.i ≡ length c.args.results.now = omega arith in
+    record { within = omega arith; first = λ beats o t. sym (best_done o _ (rw e at (c.loop-i.invariant.2 beats o t))) }

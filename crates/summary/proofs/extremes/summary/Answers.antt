@@ -1,5 +1,5 @@
 -- Either place holds the result that the definition divides.
-use Rattle.std.proofs.Common.{◌≡◌, length, rules}
+use Rattle.std.proofs.Common.{rules}
 use Rattle.theory.specs.Extremes.{beating_lower, beating_higher}
 use Rattle.summary.specs.Structs.{done_summary_lem}
 use Rattle.summary.proofs.extremes.summary.Goals as goal
