@@ -3,7 +3,7 @@ ghost use Rattle.calls.specs.Numbers.{Decodes};
 
 use calls_stream::inner::stream::Ended;
 
-#[derive(Clone, Copy, Debug, PartialEq, Eq)]
+#[derive(Clone, Copy)]
 pub(crate) enum Call {
     SmoothSeries,
     SmoothPicture,

@@ -21,17 +21,15 @@ fn main(rt: HostRuntime) -> io::Result<()> {
     let from = BufReader::with_capacity(alloc, MOST_HELD, rt.reader())?;
     let to = BufWriter::new(alloc, io::writer(&rt))?;
     let mut stream = Stream::new(alloc, from, to);
-    let ended = run(&mut stream);
-    stream.end(ended)
+    let ran = run(&mut stream);
+    stream.end(ran)
 }
 
-fn run<R: Read, W: Write>(stream: &mut Stream<R, W>) -> Ended {
+fn run<R: Read, W: Write>(stream: &mut Stream<R, W>) -> Result<(), Ended> {
     for _ in 0..MOST_CALLS {
-        if let Err(ended) = one_call(stream) {
-            return ended;
-        }
+        one_call(stream)?;
     }
-    Ended::Closed
+    Ok(())
 }
 
 fn one_call<R: Read, W: Write>(stream: &mut Stream<R, W>) -> Result<(), Ended> {

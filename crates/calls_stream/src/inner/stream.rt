@@ -16,7 +16,7 @@ const MOST_ELEMENTS: u64 = 131072;
 const MOST_PRINTED: usize = 64;
 
 // Why there is no next line.
-#[derive(Debug, Drop)]
+#[derive(Drop)]
 pub enum Ended {
     // No words are left, or they name no call.
     Closed,
@@ -117,7 +117,7 @@ impl<R: Read, W: Write> Stream<R, W> {
 
     // A slice: how many elements it has, and each of them.
     pub fn slice<T: Element>(&mut self) -> Result<Vec<T>, Ended>
-        ensures { IfOk result (λ v. vec_len v ≤ 131072) }
+        ensures { IfOk result (λ v. vec_len v ≤ MOST_ELEMENTS) }
     {
         let count = self.count()?;
         let mut values = Vec::with_capacity(self.alloc, count)?;
@@ -128,7 +128,7 @@ impl<R: Read, W: Write> Stream<R, W> {
     }
 
     fn count(&mut self) -> Result<usize, Ended>
-        ensures { IfOk result (λ n. n ≤ 131072) }
+        ensures { IfOk result (λ n. n ≤ MOST_ELEMENTS) }
     {
         let count = self.word()?;
         if count > MOST_ELEMENTS {
@@ -182,18 +182,8 @@ impl<R: Read, W: Write> Stream<R, W> {
 
     pub fn print<T: Element>(&mut self, values: &[T]) -> Result<(), Ended> {
         if values.len() > MOST_PRINTED {
-            self.in_short(values.len(), checksum(values))
-        } else {
-            self.each(values)
+            return Ok(write!(self.to, " # {} {}", values.len(), checksum(values))?);
         }
-    }
-
-    // A long slice: its length and checksum.
-    fn in_short(&mut self, length: usize, checksum: u64) -> Result<(), Ended> {
-        Ok(write!(self.to, " # {length} {checksum}")?)
-    }
-
-    fn each<T: Element>(&mut self, values: &[T]) -> Result<(), Ended> {
         for x in values {
             self.number(*x)?;
         }
@@ -209,22 +199,22 @@ impl<R: Read, W: Write> Stream<R, W> {
     }
 
     // What the writer holds back is written too, unless a write failed.
-    pub fn end(mut self, ended: Ended) -> io::Result<()>
+    pub fn end(mut self, ran: Result<(), Ended>) -> io::Result<()>
     where
         R: Drop,
         W: Drop,
     {
-        match ended {
-            Ended::Closed => self.to.flush(),
-            Ended::TooLong => {
+        match ran {
+            Ok(()) | Err(Ended::Closed) => self.to.flush(),
+            Err(Ended::TooLong) => {
                 writeln!(self.to, "stop")?;
                 self.to.flush()
             }
-            Ended::OutOfMemory => {
+            Err(Ended::OutOfMemory) => {
                 self.to.flush()?;
                 Err(io::Error::from(ErrorKind::OutOfMemory))
             }
-            Ended::Unwritten(e) => Err(e),
+            Err(Ended::Unwritten(e)) => Err(e),
         }
     }
 }
