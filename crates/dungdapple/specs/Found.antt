@@ -3,13 +3,13 @@
 --   told_job n j   the number n, and the numbers of the job j
 -- Laws: planned_found, job_found, summary_found (what is told is the outcome);
 -- plain_first (the answer of rows without place is its number).
-use Rattle.std.specs.Prelude.{ℕ, ◌≡◌, refl, List, ℤ, Result, Ok, Err}
+use Rattle.std.specs.Prelude.{ℕ, ◌≡◌, refl, List, [], Result, Ok, Err}
 use Rattle.std.proofs.Common.{sym, ap, ◌∙◌, ⊎_elim}
 use Rattle.std.specs.Result.{result_unwrap_or}
 use Rattle.meaning.specs.Refusals.{Answer, Row, first_of}
 use Rattle.meaning.specs.Planner as planner
 use Rattle.meaning.specs.Planner.{planner_rows, plan_for}
-use Rattle.meaning.specs.Record as record
+use Rattle.meaning.specs.Record as meant
 use Rattle.meaning.specs.Record.{read_record}
 use Rattle.meaning.specs.Values as values
 use Rattle.meaning.specs.Values.{plus_zero}
@@ -26,6 +26,7 @@ use Rattle.summary.specs.declared.Summary.{Summary}
 use Rattle.summary.specs.Structs.{summary_of}
 
 pub plain_first : (m : ℕ) (rows : List Row) → Unplaced m rows → {a : Answer} → a ≡ first_of rows → plain a.number ≡ a
+unfolding first_of
 plain_first m rows u {a} e = ⊎_elim (λ b. rw (b.1, b.2)) (λ p. rw p.1) (first_parts m rows [] u (first_alone rows e))
 
 abbrev pub no_plan : Planned
@@ -43,14 +44,14 @@ no_fields = record { radius = 0; inner = 0; edge = 0; passes = 0; bound = 0 }
 abbrev pub no_job : Job
 no_job = record { fields = no_fields; start = 0; size = 0 }
 
-abbrev pub told_job : ℕ → Job → record.Job
+abbrev pub told_job : ℕ → Job → meant.Job
 told_job n j = let f = j.fields in record { answer = plain n; radius = f.radius; inner = f.inner; edge = f.edge; passes = f.passes; bound = f.bound; start = j.start; size = j.size }
 
 pub job_found : (s : List ℕ) (r : Result Job Refusal) → job_of r ≡ read_record s → told_job (answer_of r).number (result_unwrap_or r no_job) ≡ read_record s
 job_found s (Ok j) h = h
 job_found s (Err e) h =
-    let n = read_refused s (λ z. refused_number e (ap (λ (j : record.Job). j.answer.number) h ∙ z)) in
-    rw (ap (λ (j : record.Job). j.answer.number) (h ∙ n)) (sym n)
+    let n = read_refused s (λ z. refused_number e (ap (λ (j : meant.Job). j.answer.number) h ∙ z)) in
+    rw (ap (λ (j : meant.Job). j.answer.number) (h ∙ n)) (sym n)
 
 abbrev pub no_summary : Summary
 no_summary = record { lowest = plus_zero; highest = plus_zero; lowest_at = 0; highest_at = 0 }
