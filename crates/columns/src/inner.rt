@@ -46,6 +46,7 @@ fn next_row(plan: Plan, sides: Sides, y: usize, rows: Starts, src: &[i64], dst: 
     }
 }
 
+// No struct holds plan, sides and source with the fact `Passable`: a ghost field has one proof at most, and this fact has a bound that its maker chooses.
 // One pass of src into dst, every cell of it. Two rows walk the extension: low, before the window, and enters, after it.
 pub fn pass(plan: Plan, sides: Sides, src: &[i64], dst: &mut [i64])
     requires { Passable plan sides.width sides.height src.now (length dst.old) }

@@ -37,6 +37,7 @@ pub fn slide(w: i64, hi: i64, first: i64) -> i64
     w + hi - first
 }
 
+// No struct holds plan and source with the fact `Passable`: a ghost field has one proof at most, and this fact has a bound that its maker chooses.
 // One pass of src into dst, every cell of it. What stands at -1 - j stands as far from the period's end as j does from its start.
 #[tactic(auto, using(crate::specs::Course::reached_done))]
 pub fn pass(plan: Plan, src: &[i64], dst: &mut [i64])
