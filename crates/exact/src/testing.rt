@@ -1,47 +1,31 @@
-// What both conversions answer.
+// What both conversions test.
 ghost use Rattle.std.specs.Prelude.{◌≡◌, length};
 ghost use Rattle.meaning.specs.Refusals as R;
 ghost use Rattle.meaning.specs.Exact as meant;
-ghost use Rattle.plan.specs.Structs.{answer_of, checked_answer, plain};
+ghost use Rattle.plan.specs.Structs.{answer_of};
 
-use plan::{Answer, Checked, Plan};
+use plan::inner::{outside, row};
+use plan::{Plan, Refusal};
 
 // Rows 7 and 8, of so many cells given and so many lent.
-fn length_refusal(given: usize, lent: usize) -> u64
-    ensures { plain result ≡ R.first_of (meant.length_rows given lent) }
+fn lengths_allowed(given: usize, lent: usize) -> Result<(), Refusal>
+    ensures { answer_of result ≡ R.first_of (meant.length_rows given lent) }
 {
-    if plan::inner::outside(Plan::LEAST, Plan::MAX_LENGTH, given as u64) {
-        return 7;
-    }
-    if lent != given {
-        return 8;
-    }
-    0
+    let bad_size = outside(Plan::LEAST, Plan::MAX_LENGTH, given as u64);
+    row(bad_size, Refusal::Size)?;
+    row(lent != given, Refusal::Length)
 }
 
-pub(crate) fn results_refusal(results: &[i64], cells: usize) -> Answer
+pub(crate) fn results_allowed(results: &[i64], cells: usize) -> Result<(), Refusal>
     ensures { answer_of result ≡ R.first_of (meant.exact_rows results.now cells) }
 {
-    let number = length_refusal(results.len(), cells);
-    if number != 0 {
-        return Answer {
-            number,
-            position: 0,
-        };
-    }
-    outputs::inner::result_refusal(Plan::MAX_RESULT, results)
+    lengths_allowed(results.len(), cells)?;
+    outputs::inner::results_allowed(Plan::MAX_RESULT, results)
 }
 
-pub(crate) fn doubles_refusal(doubles: &[f64], results: usize) -> Checked
-    ensures { checked_answer result ≡ R.first_of (meant.back_rows doubles.now results) }
+pub(crate) fn doubles_allowed(doubles: &[f64], results: usize) -> Result<(), Refusal>
+    ensures { answer_of result ≡ R.first_of (meant.back_rows doubles.now results) }
 {
-    let number = length_refusal(doubles.len(), results);
-    if number != 0 {
-        return Checked {
-            number,
-            position: 0,
-            bad: 0,
-        };
-    }
-    samples::inner::double_refusal(Plan::MAX_RESULT, doubles)
+    lengths_allowed(doubles.len(), results)?;
+    samples::inner::doubles_allowed(Plan::MAX_RESULT, doubles)
 }

@@ -1,18 +1,13 @@
 -- Refused, nothing was touched; done, every number was converted.
+use Rattle.std.proofs.lemmas.Result.{err_from_is_err_and}
 use Rattle.exact.specs.Converting.{held, exact_refused, exact_done}
 use Rattle.exact.proofs.results_to_doubles.Goals as goal
 
-pub returns-then-answer-ne0 : goal.returns-then-answer-ne0
-returns-then-answer-ne0 c =
-    let a = c.args in
-    exact_refused a.results.now a.cells.now c.results_refusal-answer.ensures c.if-answer-ne0.true
+pub returns-in_err-results_allowed : goal.returns-in_err-results_allowed
+returns-in_err-results_allowed c = let p = err_from_is_err_and c.from_residual.result c.from_residual.ensures.1 in rw (p.1, p.2) (exact_refused _ _ _ c.in_err-results_allowed.ensures)
 
 pub doubles_into-requires : goal.doubles_into-requires
-doubles_into-requires c =
-    let a = c.args in
-    held a.results.now a.cells.now c.results_refusal-answer.ensures c.if-answer-ne0.false
+doubles_into-requires c = held _ _ c.in_ok-results_allowed.ensures
 
 pub returns : goal.returns
-returns c =
-    let a = c.args in
-    exact_done a.results.now a.cells.now c.results_refusal-answer.ensures c.if-answer-ne0.false c.doubles_into.ensures
+returns c = exact_done _ _ c.in_ok-results_allowed.ensures c.doubles_into.ensures

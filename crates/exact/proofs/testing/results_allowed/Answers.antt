@@ -1,0 +1,13 @@
+-- Rows 7 and 8, and where neither applies the row of what is converted.
+use Rattle.meaning.specs.Exact.{length_rows, exact_rows}
+use Rattle.plan.specs.Structs.{passed_on}
+use Rattle.plan.specs.Rows.{rows_here, rows_next}
+use Rattle.exact.proofs.testing.results_allowed.Goals as goal
+
+pub returns-in_err-lengths_allowed : goal.returns-in_err-lengths_allowed
+unfolding exact_rows
+returns-in_err-lengths_allowed c = passed_on _ _ c.from_residual.ensures.1 (rows_here _ _ _ c.in_err-lengths_allowed.ensures)
+
+pub returns : goal.returns
+unfolding exact_rows length_rows
+returns c = rows_next _ _ tt c.in_ok-lengths_allowed.ensures c.results_allowed.ensures
