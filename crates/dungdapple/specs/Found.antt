@@ -34,7 +34,7 @@ no_plan = record { radius = 0; edge = 0 }
 
 pub planned_found : (s K b : ℕ) (r : Result Planned Refusal) → planned_of r ≡ plan_for s K b
     → record { answer = plain (answer_of r).number; radius = (result_unwrap_or r no_plan).radius; edge = (result_unwrap_or r no_plan).edge } ≡ plan_for s K b
-unfolding plan_for
+unfolding plan_for planner_rows
 planned_found s K b (Ok p) h = h
 planned_found s K b (Err e) h = rw (plain_first 16 (planner_rows s K b) tt {a = refused e} (ap (λ (p : planner.Planned). p.answer) h)) h
 
