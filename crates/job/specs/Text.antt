@@ -7,7 +7,7 @@
 use Rattle.std.specs.Prelude.{◌≡◌, List, ◌++◌, ℕ, ◌+◌, ◌*◌, ◌/◌, ◌≤◌, ℤ, pos}
 use Rattle.std.proofs.Common.{sym, ◌∙◌, arith}
 use Rattle.std.proofs.Math.Path.{ap}
-use Rattle.std.proofs.Math.ListN.{length, length-replicate}
+use Rattle.std.proofs.Math.ListN.{length, length-drop, length-replicate}
 use Rattle.meaning.specs.Limits.{max_samples}
 use Rattle.meaning.specs.Extension.{fold}
 use Rattle.meaning.specs.Kernel.{Stage, divisor}
@@ -18,7 +18,8 @@ use Rattle.meaning.specs.Record.{sample_at}
 use Rattle.meaning.specs.Program.{first_line, result_lines, report}
 use Rattle.theory.specs.Lists.{length_list_of}
 use Rattle.theory.specs.Programs.{length_first_line, length_result_lines, report_refused, report_done, report_lent, done_divisor}
-use Rattle.encoding.specs.Append.{Appended, Room}
+use Rattle.encoding.specs.declared.inner.cursor.Cursor.{Cursor}
+use Rattle.encoding.specs.Append.{rest, Wrote, Room}
 use Rattle.series.specs.Contract.{Gives}
 
 abbrev pub samples_in : List ℕ → List ℤ
@@ -37,11 +38,11 @@ pub record Lent (n s r w out : ℕ) : Type 0 where
   pub few : n ≤ max_samples
   pub text : most_text ≤ out
 
-pub first_room : (a b c : ℕ) {s : List ℕ} → most_text ≤ length s → Room 0 (first_line a b c) s
+pub first_room : (a b c : ℕ) {o : Cursor} → most_text ≤ length (rest o) → Room o (first_line a b c)
 first_room a b c h = record { room = omega (arith, length_first_line a b c) }
 
-pub lines_room : (a b c : ℕ) (zs : List ℤ) {s t : List ℕ} {end : ℕ} → length zs ≤ max_samples → most_text ≤ length t → Appended s 0 (first_line a b c) t end → Room end (result_lines 0 zs) t
-lines_room a b c zs h k p = record { room = omega (arith, length_first_line a b c, length_result_lines 0 zs, p.behind) }
+pub lines_room : (a b c : ℕ) (zs : List ℤ) {o p : Cursor} → length zs ≤ max_samples → most_text ≤ length (rest o) → Wrote o (first_line a b c) p → Room p (result_lines 0 zs)
+lines_room a b c zs {o} h k w = record { room = omega (arith, length_first_line a b c, length_result_lines 0 zs, ap length w.rest, length-drop (length (first_line a b c)) (rest o)) }
 
 -- after the call on the samples f that were loaded from a stretch
 module _ (ss : List Stage) (M : ℕ) (st : List ℕ) (f r w : List ℤ) {n out : ℕ} (loaded : f ≡ list_of n (sample_at st)) (lent : Lent (length st / 4) n (length r) (length w) out) {a : Answer} {new work : List ℤ} (g : Gives (smooth_series fold ss M f r w) a new work) where

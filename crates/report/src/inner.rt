@@ -1,34 +1,38 @@
 // One job in, its text out.
 ghost use Rattle.std.specs.Prelude.{◌≤◌, length};
 ghost use Rattle.meaning.specs.Program.{program};
-ghost use Rattle.encoding.specs.Append.{Appended};
+ghost use Rattle.encoding.specs.Append.{Appended, Wrote, rest};
 ghost use Rattle.job.specs.Text.{most_text};
 
-use plan::Plan;
+use encoding::inner::cursor::Cursor;
+use plan::{Plan, Refusal};
 
 // A longer input is no job.
 pub const MOST_BYTES: usize = 4123;
-
-const NOT_WELL_FORMED: u64 = 14;
 
 // What the program prints for its input.
 pub fn report(input: &[u8], out: &mut [u8]) -> usize
     requires { most_text ≤ length out.old }
     ensures { Appended out.old 0 (program input.now) out.new result }
 {
+    let mut text = Cursor::new(out);
+    report_into(input, &mut text);
+    text.len()
+}
+
+fn report_into(input: &[u8], text: &mut Cursor)
+    requires { most_text ≤ length (rest text.old) }
+    ensures { Wrote text.old (program input.now) text.new }
+{
     if input.len() > MOST_BYTES {
-        return lines::inner::first_line(out, 0, NOT_WELL_FORMED, 0, 0);
+        return lines::inner::first_line(text, Refusal::Record.number(), 0, 0);
     }
-    let job = reader::read_record(input);
-    if job.number != 0 {
-        return lines::inner::first_line(out, 0, NOT_WELL_FORMED, 0, 0);
+    match reader::read_record(input) {
+        Ok(job) => {
+            let stretch = record::stretch(input, job.start, job.size);
+            let bound = u64::from(job.fields.bound);
+            job::inner::smooth(Plan::from(job.fields), bound, stretch, text);
+        }
+        Err(refusal) => lines::inner::first_line(text, refusal.number(), 0, 0),
     }
-    let plan = Plan::new(
-        job.radius as u64,
-        job.inner as u64,
-        job.edge as u64,
-        job.passes as u64,
-    );
-    let stretch = record::stretch(input, job.start, job.size);
-    job::inner::smooth(plan, job.bound as u64, stretch, out)
 }
