@@ -10,12 +10,14 @@ use plan::Refusal;
 use refusals::inner::{Span, within_reach};
 use taps::inner::weight;
 
-// Sample p changes by so much, and results gain by the taps.
+// Sample p of len changes by so much, and results gain by the taps. There is room for every gain.
 #[derive(Clone, Copy)]
 pub struct Edit<'a> {
     pub taps: &'a [i64],
+    pub len: usize,
     pub p: usize,
     pub change: i64,
+    ghost gainable: { Gainable taps.now len p change },
 }
 
 // Has a result, or would it get, a size above the limit? The sum is formed only where the first has not.
@@ -27,21 +29,21 @@ fn too_large(limit: u64, old: i64, gain: i64) -> bool
 }
 
 impl Edit<'_> {
-    // What the result at n of len gains.
-    fn gain(self, len: usize, n: usize) -> i64
-        requires { (n < len) × Gainable self.taps.now len self.p self.change }
-        ensures { result ≡ gain_in self.entry.taps.now len self.entry.p self.entry.change n }
+    // What the result at n gains.
+    fn gain(self, n: usize) -> i64
+        requires { n < self.len }
+        ensures { result ≡ gain_in self.entry.taps.now self.entry.len self.entry.p self.entry.change n }
     {
-        self.change * weight(self.taps, len, n, self.p)
+        self.change * weight(self.taps, self.len, n, self.p)
     }
 
     // Row 12, of the results in a span.
     fn results_allowed(self, limit: u64, results: &[i64], span: Span) -> Result<(), Refusal>
-        requires { (limit ≤ max_result) × (span.end ≤ length results.now) × Gainable self.taps.now (length results.now) self.p self.change }
+        requires { (limit ≤ max_result) × (span.end ≤ length results.now) × (length results.now ≡ self.len) }
         ensures { answer_of result ≡ R.first_of (R.row_at 12 (length results.now) (picked span.start span.end (refused_in limit self.entry.taps.now self.entry.p self.entry.change results.now)) ∷ []) }
     {
         for n in span.start..span.end {
-            if too_large(limit, results[n], self.gain(results.len(), n)) {
+            if too_large(limit, results[n], self.gain(n)) {
                 return Err(Refusal::BadResult { position: n });
             }
         }
@@ -50,12 +52,12 @@ impl Edit<'_> {
 
     // Gives the results in a span their gains.
     fn add_gains(self, results: &mut [i64], span: Span)
-        requires { Writable self.taps.now self.p self.change results.old span.start span.end }
+        requires same { length results.old ≡ self.len }
+        requires writable { Writable self.taps.now self.p self.change results.old span.start span.end }
         ensures { results.new ≡ gained_in self.entry.taps.now self.entry.p self.entry.change results.old span.start span.end }
     {
-        let len = results.len();
         for n in span.start..span.end {
-            results[n] += self.gain(len, n);
+            results[n] += self.gain(n);
         }
     }
 
@@ -73,7 +75,7 @@ impl Edit<'_> {
 
     // The taps reach as far as there are any: what lies within reach is tested, and then written. The count of results changed.
     pub fn apply(self, limit: u64, results: &mut [i64]) -> Result<usize, Refusal>
-        requires { (limit ≤ max_result) × (1 ≤ length self.taps.now) × Gainable self.taps.now (length results.old) self.p self.change }
+        requires { (limit ≤ max_result) × (1 ≤ length self.taps.now) × (length results.old ≡ self.len) }
         ensures { ChangesIn self.entry.taps.now limit self.entry.p self.entry.change results.old (answer_of result) (value_or 0 result) results.new }
     {
         let span = within_reach(results.len(), self.p, self.taps.len() - 1);

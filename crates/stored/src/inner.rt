@@ -1,64 +1,54 @@
-// The results of an edit, with the taps in arrays of its own: nothing that the test of a result needs is written to a lent slice.
-ghost use Rattle.std.specs.Prelude.{◌≡◌, ◌+◌, ◌*◌, length};
-ghost use Rattle.meaning.specs.Limits.{max_taps};
-ghost use Rattle.meaning.specs.Kernel.{reach, divisor};
-ghost use Rattle.plan.specs.Structs.{stages_of, edit_answer};
+// The results of an edit, by the plan's taps.
+ghost use Rattle.std.specs.Prelude.{◌≡◌, ◌*◌};
+ghost use Rattle.meaning.specs.Kernel.{divisor};
+ghost use Rattle.plan.specs.Structs.{stages_of, answer_of, value_or};
+ghost use Rattle.taps.specs.Lent.{Whole};
 ghost use Rattle.stored.specs.Changes.{Changes, Editable};
 
-use plan::{Edited, Plan};
-use taps::inner::MOST_TAPS;
+use gains::inner::Edit;
+use plan::inner::scaled;
+use plan::{Plan, Refusal};
+use taps::inner::{MOST_TAPS, tap_count, taps_into};
 
-// The results of an edit that is so far not refused.
-pub fn edit_results(plan: Plan, bound: u64, p: usize, change: i64, results: &mut [i64]) -> Edited
+// The results of an edit that is so far not refused, and how many change.
+pub fn edit_results(
+    plan: Plan,
+    bound: u64,
+    p: usize,
+    change: i64,
+    results: &mut [i64],
+) -> Result<usize, Refusal>
     requires { Editable (stages_of plan) bound p change results.old }
-    ensures { Changes (stages_of plan) (bound * divisor (stages_of plan)) p change results.old (edit_answer result) result.count results.new }
+    ensures { Changes (stages_of plan) (bound * divisor (stages_of plan)) p change results.old (answer_of result) (value_or 0 result) results.new }
 {
+    // not `with_taps`: tried, and of what a closure writes through a slice that it borrows the proof knows the length only
+    let count = tap_count(plan);
     let mut taps = [0i64; MOST_TAPS];
     let mut other = [0i64; MOST_TAPS];
-    with_room(plan, bound, p, change, results, &mut taps, &mut other)
+    let front = &mut taps[0..count];
+    taps_into(plan, front, &mut other[0..count]);
+    by_taps(plan, front, bound, p, change, results)
 }
 
-// The same, with room for the most taps.
-fn with_room(
+// The same, by these taps.
+fn by_taps(
     plan: Plan,
+    taps: &[i64],
     bound: u64,
     p: usize,
     change: i64,
     results: &mut [i64],
-    taps: &mut [i64],
-    other: &mut [i64],
-) -> Edited
+) -> Result<usize, Refusal>
+    requires whole { Whole (stages_of plan) taps.now }
     requires editable { Editable (stages_of plan) bound p change results.old }
-    requires taps_len { (length taps.old ≡ max_taps) × (length other.old ≡ max_taps) }
-    ensures { Changes (stages_of plan) (bound * divisor (stages_of plan)) p change results.old (edit_answer result) result.count results.new }
+    ensures { Changes (stages_of plan) (bound * divisor (stages_of plan)) p change results.old (answer_of result) (value_or 0 result) results.new }
 {
-    let count = taps::inner::tap_count(plan);
-    with_taps(
-        plan,
-        bound,
+    let len = results.len();
+    let edit = Edit {
+        taps,
+        len,
         p,
         change,
-        results,
-        &mut taps[0..count],
-        &mut other[0..count],
-    )
-}
-
-// The same, with as much room as there are taps.
-fn with_taps(
-    plan: Plan,
-    bound: u64,
-    p: usize,
-    change: i64,
-    results: &mut [i64],
-    taps: &mut [i64],
-    other: &mut [i64],
-) -> Edited
-    requires editable { Editable (stages_of plan) bound p change results.old }
-    requires taps_len { (length taps.old ≡ reach (stages_of plan) + 1) × (length other.old ≡ reach (stages_of plan) + 1) }
-    ensures { Changes (stages_of plan) (bound * divisor (stages_of plan)) p change results.old (edit_answer result) result.count results.new }
-{
-    taps::inner::taps_into(plan, taps, other);
-    let limit = plan::inner::scaled(bound, plan);
-    gains::inner::edit_by(taps, limit, p, change, results)
+    };
+    edit.apply(scaled(bound, plan), results)
 }

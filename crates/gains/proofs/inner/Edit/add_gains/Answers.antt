@@ -9,18 +9,18 @@ pub loop-n-init : goal.loop-n-init
 loop-n-init c =
     let e = c.args.self in
     let s = c.args.span in
-    filled_start (λ i l. gained_before e.taps.now e.p e.change c.args.results.now s.start s.end i (omega (arith, c.requires.order, c.requires.inside)) l)
+    filled_start (λ i l. gained_before e.taps.now e.p e.change c.args.results.now s.start s.end i (omega (arith, c.requires.writable.order, c.requires.writable.inside)) l)
 
 pub overflow_add-results : goal.overflow_add-results
 overflow_add-results c =
-    let f = moved_fits c.requires c.loop-n.auto.n c.loop-n-test.true c.loop-n.invariant c.gain.ensures in
+    let f = moved_fits c.requires.writable c.loop-n.auto.n c.loop-n-test.true c.loop-n.invariant {g = c.gain.result} (rw c.requires.same c.gain.ensures) in
     grind (arith, to_z-of_z)
 
 pub loop-n-preserved : goal.loop-n-preserved
 loop-n-preserved c =
-    let f = moved_fits c.requires c.loop-n.auto.n c.loop-n-test.true c.loop-n.invariant c.gain.ensures in
-    let e = moved_written c.requires c.loop-n.auto.n c.loop-n-test.true c.loop-n.invariant c.gain.ensures in
-    filled_next c.loop-n.invariant (omega (arith, c.requires.inside)) (grind (arith, to_z-of_z))
+    let f = moved_fits c.requires.writable c.loop-n.auto.n c.loop-n-test.true c.loop-n.invariant {g = c.gain.result} (rw c.requires.same c.gain.ensures) in
+    let e = moved_written c.requires.writable c.loop-n.auto.n c.loop-n-test.true c.loop-n.invariant {g = c.gain.result} (rw c.requires.same c.gain.ensures) in
+    filled_next c.loop-n.invariant (omega (arith, c.requires.writable.inside)) (grind (arith, to_z-of_z))
 
 pub returns : goal.returns
 returns c =

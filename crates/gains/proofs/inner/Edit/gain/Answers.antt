@@ -5,8 +5,8 @@ use Rattle.gains.specs.Gains.{gain_in, gain_fits}
 use Rattle.gains.proofs.inner.Edit.gain.Goals as goal
 
 pub overflow_mul-result : goal.overflow_mul-result
-overflow_mul-result c = let f = gain_fits c.requires.1 c.requires.0 in grind (arith, to_z-of_z)
+overflow_mul-result c = let f = gain_fits c.args.self.gainable c.requires in grind (arith, to_z-of_z)
 
 pub returns : goal.returns
 unfolding gain_in
-returns c = let f = gain_fits c.requires.1 c.requires.0 in grind (arith, to_z-of_z)
+returns c = let f = gain_fits c.args.self.gainable c.requires in grind (arith, to_z-of_z)
