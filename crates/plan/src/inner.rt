@@ -56,6 +56,8 @@ pub fn allowed(plan: Plan) -> Result<(), Refusal>
     row(plan.inner <= plan.edge, Refusal::EdgeWeight)
 }
 
+// ---- of a plan that is allowed. That is a clause and no type: what a pass asks of a plan stands in one word with what it asks of slices.
+
 // The sum of one pass's taps.
 fn tap_sum(plan: Plan) -> u64
     requires { Tested plan }

@@ -17,6 +17,7 @@ pub struct Plan {
 }
 
 // A picture: rows are smoothed by the plan across, columns by the plan down.
+// A series' plan and bound have no struct: a pass goes by the plan alone, samples go by the bound.
 #[derive(Clone, Copy)]
 pub struct Raster {
     pub across: Plan,
