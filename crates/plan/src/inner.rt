@@ -27,10 +27,7 @@ fn limits_agree()
 pub fn outside(low: u64, high: u64, x: u64) -> bool
     ensures { result ≡ R.outside low high x }
 {
-    if x < low {
-        return true;
-    }
-    high < x
+    !(low..=high).contains(&x)
 }
 
 // A row of the table of numbers: a refusal where it applies.

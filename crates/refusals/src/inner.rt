@@ -17,10 +17,7 @@ use plan::{Plan, Raster, Refusal};
 pub fn lengths_differ(a: usize, asked_a: usize, b: usize, asked_b: usize) -> bool
     ensures { result ≡ R.differs a asked_a || R.differs b asked_b }
 {
-    if a != asked_a {
-        return true;
-    }
-    b != asked_b
+    a != asked_a || b != asked_b
 }
 
 // Rows 1 to 4 of two plans: the lower row of the two.
