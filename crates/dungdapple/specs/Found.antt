@@ -2,8 +2,8 @@
 --   no_plan, no_fields, no_job   of which all numbers are 0;  no_summary   with plus zeros
 --   told_job n j   the number n, and the numbers of the job j
 -- Laws: planned_found, job_found, summary_found (what is told is the outcome);
--- plain_first (the answer of rows without place is its number).
-use Rattle.std.specs.Prelude.{ℕ, ◌≡◌, refl, List, [], Result, Ok, Err}
+-- plain_first, number_below (of rows without place the answer is its number, and how large that is).
+use Rattle.std.specs.Prelude.{ℕ, ◌≡◌, refl, ◌<◌, List, [], Result, Ok, Err}
 use Rattle.std.proofs.Common.{sym, ap, ◌∙◌, ⊎_elim}
 use Rattle.std.specs.Result.{result_unwrap_or}
 use Rattle.meaning.specs.Refusals.{Answer, Row, first_of}
@@ -28,6 +28,10 @@ use Rattle.summary.specs.Structs.{summary_of}
 pub plain_first : (m : ℕ) (rows : List Row) → Unplaced m rows → {a : Answer} → a ≡ first_of rows → plain a.number ≡ a
 unfolding first_of
 plain_first m rows u {a} e = ⊎_elim (λ b. rw (b.1, b.2)) (λ p. rw p.1) (first_parts m rows [] u (first_alone rows e))
+
+pub number_below : (m : ℕ) (rows : List Row) → Unplaced m rows → 0 < m → {a : Answer} → a ≡ first_of rows → a.number < m
+unfolding first_of
+number_below m rows u l e = ⊎_elim (λ b. b.0) (λ p. rw p.1 l) (first_parts m rows [] u (first_alone rows e))
 
 abbrev pub no_plan : Planned
 no_plan = record { radius = 0; edge = 0 }

@@ -16,15 +16,41 @@ ghost use Rattle.meaning.specs.Planner.{plan_for};
 ghost use Rattle.meaning.specs.Record.{sample_at, read_record};
 ghost use Rattle.meaning.specs.HostRecord.{write_record_in};
 ghost use Rattle.meaning.specs.Arguments.{whole_of, count_of, plan_in, stages_in};
-ghost use Rattle.plan.specs.Structs.{plain};
+ghost use Rattle.plan.specs.Structs.{plain, answer_of};
 ghost use Rattle.plan.specs.Contract as conversion;
 ghost use Rattle.series.specs.Contract as smoothing;
 ghost use Rattle.edit.specs.Contract as editing;
 ghost use Rattle.writer.specs.Contract as writing;
 ghost use Rattle.answers.specs.Told.{said};
+ghost use Rattle.arguments.specs.Numbers.{numbers_of};
 ghost use Rattle.dungdapple.specs.Told.{Points, Carries};
 
-use plan::Raster;
+use plan::{Plan, Refusal};
+use planner::Planned;
+use record::{Fields, Job};
+use summary::Summary;
+
+// What is told where a call gives no struct.
+const NO_PLAN: Planned = Planned { radius: 0, edge: 0 };
+
+const NO_SUMMARY: Summary = Summary {
+    lowest: 0.0,
+    highest: 0.0,
+    lowest_at: 0,
+    highest_at: 0,
+};
+
+const NO_JOB: Job = Job {
+    fields: Fields {
+        radius: 0,
+        inner: 0,
+        edge: 0,
+        passes: 0,
+        bound: 0,
+    },
+    start: 0,
+    size: 0,
+};
 
 // Smooths the samples into the results, and leaves zeros in work.
 pub fn dungdapple_smooth_series(
@@ -121,7 +147,7 @@ pub fn dungdapple_plan_for(
     let times = arguments::inner::count(passes);
     let weight = arguments::inner::count(inner);
     let planned = planner::plan_for(sigma, times, weight);
-    let found = planned.unwrap_or(Planned { radius: 0, edge: 0 });
+    let found = planned.unwrap_or(NO_PLAN);
     *radius = found.radius as u32;
     *edge = found.edge as u32;
     answers::inner::number(planned)
@@ -284,12 +310,7 @@ pub fn dungdapple_summary_series(
     let numbers = arguments::inner::plan(plan);
     let most = arguments::inner::count(bound);
     let summed = summary::summary_series(numbers, most, results);
-    let found = summed.unwrap_or(Summary {
-        lowest: 0.0,
-        highest: 0.0,
-        lowest_at: 0,
-        highest_at: 0,
-    });
+    let found = summed.unwrap_or(NO_SUMMARY);
     *lowest = found.lowest;
     *highest = found.highest;
     *lowest_at = found.lowest_at as u32;
@@ -315,12 +336,7 @@ pub fn dungdapple_summary_picture(
 {
     let raster = arguments::inner::raster(across, down, bound, width, height);
     let summed = summary::summary_picture(raster, results);
-    let found = summed.unwrap_or(Summary {
-        lowest: 0.0,
-        highest: 0.0,
-        lowest_at: 0,
-        highest_at: 0,
-    });
+    let found = summed.unwrap_or(NO_SUMMARY);
     *lowest = found.lowest;
     *highest = found.highest;
     *lowest_at = found.lowest_at as u32;
@@ -387,9 +403,14 @@ pub fn dungdapple_write_record(plan: &[f64], bound: f64, samples: &[i32], bytes:
 {
     let numbers = arguments::inner::plan(plan);
     let most = arguments::inner::count(bound);
-    let written = match arguments::inner::fields(numbers, most) {
-        Ok(fields) => writer::write_record(fields, samples, bytes),
-        Err(refusal) => Err(refusal),
-    };
+    let written = written(numbers, most, samples, bytes);
     answers::inner::number(written)
+}
+
+// The record of numbers that their fields hold.
+fn written(plan: Plan, bound: u64, samples: &[i32], bytes: &mut [u8]) -> Result<(), Refusal>
+    ensures { writing.Writes (write_record_in (numbers_of plan) bound samples.now bytes.old) (answer_of result) bytes.new }
+{
+    let fields = arguments::inner::fields(plan, bound)?;
+    writer::write_record(fields, samples, bytes)
 }

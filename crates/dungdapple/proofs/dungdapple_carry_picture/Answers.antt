@@ -12,7 +12,7 @@ use Rattle.dungdapple.proofs.dungdapple_carry_picture.Goals as goal
 pub int_to_float-carry : goal.int_to_float-carry
 int_to_float-carry c =
     let a = c.args in
-    carry_picture_held c.raster-raster.result.bound a.results.now a.cells.now (stages_of c.raster-raster.result.across) (stages_of c.raster-raster.result.down) c.raster-raster.result.width c.raster-raster.result.height c.carry_picture-carried.ensures.carry
+    carry_picture_held c.raster-raster.result.bound a.results.now a.cells.now (stages_of c.raster-raster.result.across) (stages_of c.raster-raster.result.down) c.raster-raster.result.width c.raster-raster.result.height (c.unwrap_or.ensures ∙ c.carry_picture-carried.ensures.carry)
 
 pub told-requires : goal.told-requires
 told-requires c =

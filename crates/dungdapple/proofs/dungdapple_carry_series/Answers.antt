@@ -13,7 +13,7 @@ use Rattle.dungdapple.proofs.dungdapple_carry_series.Goals as goal
 pub int_to_float-carry : goal.int_to_float-carry
 int_to_float-carry c =
     let a = c.args in
-    carry_series_held c.count-most.result a.results.now a.cells.now (stages_of c.plan-numbers.result) c.carry_series-carried.ensures.carry
+    carry_series_held c.count-most.result a.results.now a.cells.now (stages_of c.plan-numbers.result) (c.unwrap_or.ensures ∙ c.carry_series-carried.ensures.carry)
 
 pub told-requires : goal.told-requires
 told-requires c =
