@@ -15,6 +15,10 @@ const MOST_READ: usize = report::inner::MOST_BYTES + 1;
 // More than any report has.
 const MOST_PRINTED: usize = 65536;
 
+const UNREAD: &str = "smooth: standard input could not be read to its end";
+
+const UNWRITTEN: &str = "smooth: standard output did not take the whole report";
+
 fn main(rt: HostRuntime) -> io::Result<()> {
     run(&rt, &mut rt.reader(), &mut io::writer(&rt))
 }
@@ -25,7 +29,8 @@ fn run<E: Eprint, R: Read, W: Write>(rt: &E, from: &mut R, to: &mut W) -> io::Re
 {
     let mut input = input_buffer();
     let mut out = [0u8; MOST_PRINTED];
-    let n = see_end(rt, read_front(from, &mut input))?;
+    // A job that was not read to its end is not smoothed.
+    let n = read_front(from, &mut input).inspect_err(|_| tell(rt, UNREAD))?;
     let end = report::inner::report(&input[..n], &mut out);
     print(rt, to, &out[..end])
 }
@@ -36,6 +41,7 @@ fn read_front<R: Read>(from: &mut R, room: &mut [u8]) -> io::Result<usize>
     ensures bytes { IfOk result (λ n. IfSome (R.remaining from.old) (λ xs. take n room.new ≡ take (length room.old) xs)) }
 {
     let mut n = 0;
+    // no `for`: a read gives as much as it likes, so no one knows how many there are
     while n < room.len() {
         let more = from.read(&mut room[n..])?;
         if more == 0 {
@@ -46,24 +52,15 @@ fn read_front<R: Read>(from: &mut R, room: &mut [u8]) -> io::Result<usize>
     Ok(n)
 }
 
-// A job that was not read to its end is not smoothed.
-fn see_end<E: Eprint>(rt: &E, read: io::Result<usize>) -> io::Result<usize>
-    ensures { result ≡ read }
-{
-    if read.is_err() {
-        let _ = rt.eprintln("smooth: standard input could not be read to its end");
-    }
-    read
+// Where standard error takes nothing either, there is no one to tell.
+fn tell<E: Eprint>(rt: &E, text: &str) {
+    let _ = rt.eprintln(text);
 }
 
 fn print<E: Eprint, W: Write>(rt: &E, to: &mut W, text: &[u8]) -> io::Result<()>
     ensures { OnOk result (Appends (W.contents to.old) (W.contents to.new) text.now) }
 {
-    let written = to.write_all(text);
-    if written.is_err() {
-        let _ = rt.eprintln("smooth: standard output did not take the whole report");
-    }
-    written
+    to.write_all(text).inspect_err(|_| tell(rt, UNWRITTEN))
 }
 
 // One byte more than a job may have.

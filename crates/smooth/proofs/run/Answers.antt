@@ -17,6 +17,6 @@ whole (Some xs) held grown room s out n size end l e p a = subst (Appends held g
 
 pub returns : goal.returns
 returns g c =
-    let read = c.in_ok-n.ensures in
-    let bytes = subst (λ r. IfOk r (λ n. IfSome (g.R.Read.remaining c.args.from.now) (λ xs. take n c.read_front.new.room ≡ take (length c.input_buffer-input.result) xs))) (sym read) c.read_front.ensures.bytes in
+    let read = c.in_ok-n.ensures.value in
+    let bytes = subst (λ r. IfOk r (λ n. IfSome (g.R.Read.remaining c.args.from.now) (λ xs. take n c.read_front.new.room ≡ take (length c.input_buffer-input.result) xs))) read c.read_front.ensures.bytes in
     told c.print.result (whole _ _ _ _ _ _ _ _ _ c.input_buffer-input.ensures bytes c.report-end.ensures) c.print.ensures
