@@ -1,49 +1,50 @@
 -- The rows of an edit, in the parts that the code tests.
 --   front_rows   rows 1 to 11, which need no result
 -- Laws: front_refused (rows 1 to 9), front_value (row 10), front_sample (row 11), front_allowed (what rows 1 to 11 leave); rows_parts, front_numbered.
-use Rattle.std.specs.Prelude.{ℕ, ◌+◌, ◌*◌, ◌≤◌, ◌<◌, ◌≡◌, refl, Bool, ◌||◌, List, [], ◌∷◌, ◌++◌, length, ℤ, nat_abs}
-use Rattle.std.proofs.Math.Path.{sym, ap}
-use Rattle.std.proofs.Common.{◌∙◌, lt-ltb, le-ltb}
+use Rattle.std.specs.Prelude.{ℕ, ◌+◌, ◌*◌, ◌≤◌, ◌≡◌, refl, Bool, ◌||◌, List, [], ◌∷◌, ◌++◌, length, ℤ, nat_abs}
+use Rattle.std.proofs.Math.Path.{ap}
+use Rattle.std.proofs.Common.{◌∙◌}
 use Rattle.std.proofs.Math.Dec.{eqb}
 use Rattle.meaning.specs.Extension.{at}
 use Rattle.meaning.specs.Kernel.{Stage, divisor}
-use Rattle.meaning.specs.Refusals.{Answer, Row, first_of, row_at, differs, within, plan_rows, size_rows}
+use Rattle.meaning.specs.Refusals.{Answer, Row, ◌when◌, first_of, row_at, above, differs, within, plan_rows, size_rows}
 use Rattle.meaning.specs.Calls.{sample_row, edit_room, edit_rows}
-use Rattle.theory.specs.Refusals.{Numbered, first_on, first_off, done_off, append_off, number_zero}
+use Rattle.theory.specs.Refusals.{Numbered, done_off, append_off, number_zero}
 use Rattle.theory.specs.Places.{row_at_ext}
 use Rattle.theory.specs.Edits.{result_row}
 use Rattle.theory.specs.AcceptedEdits.{front, Begun, front_begun, old_passes}
-use Rattle.plan.specs.Structs.{plain}
+use Rattle.plan.specs.declared.Refusal.{Refusal}
+use Rattle.plan.specs.Structs.{plain, refused, refused_number}
+use Rattle.plan.specs.Rows.{row_here, row_next}
 use Rattle.refusals.specs.Span.{span_one}
 use Rattle.theory.specs.Placed.{placed_rows, placed_refused, placed_rest}
 
 unfoldable pub front_rows : List Stage → ℕ → ℕ → ℤ → List ℤ → ℕ → ℕ → List Row
 front_rows ss M p v f nr nw = front ss M p v f nr nw ++ sample_row M f (λ i. eqb i p) ∷ []
 
-module _ (ss : List Stage) (M p : ℕ) (v : ℤ) (f : List ℤ) (nr nw : ℕ) {a : Answer} (wrong : Bool)
-    (e : a ≡ first_of (placed_rows ss M (length f) wrong p)) (w : wrong ≡ (differs nr (length f) || differs nw (edit_room ss (length f)))) where
-  pub front_refused : (a.number ≡ 0 → ⊥) → a ≡ first_of (front_rows ss M p v f nr nw)
+module _ (ss : List Stage) (M p : ℕ) (v : ℤ) (f : List ℤ) (nr nw : ℕ) (wrong : Bool) (w : wrong ≡ (differs nr (length f) || differs nw (edit_room ss (length f)))) where
+  pub front_refused : (x : Refusal) → refused x ≡ first_of (placed_rows ss M (length f) wrong p) → refused x ≡ first_of (front_rows ss M p v f nr nw)
   unfolding front_rows plan_rows size_rows
-  front_refused h = placed_refused ss M (length f) wrong p e w _ h
+  front_refused x e = placed_refused ss M (length f) wrong p e w _ (refused_number x)
 
-  module _ (z : a.number ≡ 0) where
-    pub front_value : M < nat_abs v → plain 10 ≡ first_of (front_rows ss M p v f nr nw)
+  module _ (e : plain 0 ≡ first_of (placed_rows ss M (length f) wrong p)) where
+    pub front_value : (x : Refusal) → refused x ≡ first_of ((10 when above M v) ∷ []) → refused x ≡ first_of (front_rows ss M p v f nr nw)
     unfolding front_rows plan_rows size_rows
-    front_value l = placed_rest ss M (length f) wrong p e w _ z (sym (first_on _ _ (lt-ltb M (nat_abs v) l)))
+    front_value x h = placed_rest ss M (length f) wrong p e w _ refl (row_here _ _ x h)
 
-    pub front_sample : nat_abs v ≤ M → {b : Answer} → b ≡ first_of (sample_row M f (within p (p + 1)) ∷ []) → b ≡ first_of (front_rows ss M p v f nr nw)
+    pub front_sample : plain 0 ≡ first_of ((10 when above M v) ∷ []) → {a : Answer} → a ≡ first_of (sample_row M f (within p (p + 1)) ∷ []) → a ≡ first_of (front_rows ss M p v f nr nw)
     unfolding front_rows plan_rows size_rows
-    front_sample l g = placed_rest ss M (length f) wrong p e w _ z (g ∙ ap (λ row. first_of (row ∷ [])) (row_at_ext 11 (length f) (λ i k. rw (span_one p i))) ∙ sym (first_off _ _ (le-ltb M (nat_abs v) l)))
+    front_sample h g = placed_rest ss M (length f) wrong p e w _ refl (row_next _ _ tt h (g ∙ ap (λ row. first_of (row ∷ [])) (row_at_ext 11 (length f) (λ i k. rw (span_one p i)))))
 
 module _ (ss : List Stage) (M p : ℕ) (v : ℤ) (f : List ℤ) (nr nw : ℕ) where
   pub front_numbered : Numbered (front_rows ss M p v f nr nw)
   unfolding front_rows plan_rows size_rows row_at
   front_numbered = tt
 
-  pub front_allowed : {a : Answer} → a ≡ first_of (front_rows ss M p v f nr nw) → a.number ≡ 0 → Begun ss M p v f nr nw × (nat_abs (at f p) ≤ M)
+  pub front_allowed : plain 0 ≡ first_of (front_rows ss M p v f nr nw) → Begun ss M p v f nr nw × (nat_abs (at f p) ≤ M)
   unfolding front_rows
-  front_allowed e z =
-      let (h, t) = append_off (front ss M p v f nr nw) (sample_row M f (λ i. eqb i p) ∷ []) (done_off (front_rows ss M p v f nr nw) front_numbered (number_zero e z)) in
+  front_allowed e =
+      let (h, t) = append_off (front ss M p v f nr nw) (sample_row M f (λ i. eqb i p) ∷ []) (done_off (front_rows ss M p v f nr nw) front_numbered (number_zero e refl)) in
       let ok = front_begun ss M p v f nr nw h in
       (ok, old_passes M p f ok.position t.0)
 

@@ -1,8 +1,9 @@
 -- The steps of an edit, each over plain lists.
 -- Laws: position_inside, value_fits, change_fits, editable (what rows 1 to 11 leave); edit_refused, edit_too_large, edit_done (the ends of an edit without work); call_refused, call_done (of the call, with it).
-use Rattle.std.specs.Prelude.{ℕ, ◌+◌, ◌*◌, ◌≤◌, ◌<◌, ◌≡◌, refl, List, length, set, ℤ, nat_abs, ◌-ℤ◌}
+use Rattle.std.specs.Prelude.{ℕ, ◌+◌, ◌*◌, ◌≤◌, ◌<◌, ◌≡◌, refl, List, length, set, ℤ, nat_abs, ◌-ℤ◌, Result, IsErrAnd}
 use Rattle.std.proofs.Math.Path.{sym, ap}
 use Rattle.std.proofs.Common.{◌∙◌, arith, SFits}
+use Rattle.std.proofs.lemmas.Result.{err_from_is_err_and}
 use Rattle.std.specs.Int.{w32, w64}
 use Rattle.algebra.specs.Size.{Abs, abs--, fits_abs}
 use Rattle.meaning.specs.Extension.{at, fold}
@@ -11,24 +12,29 @@ use Rattle.meaning.specs.Refusals.{Answer, first_of, zeros}
 use Rattle.meaning.specs.Calls.{gained, edit_rows, edit_series}
 use Rattle.theory.specs.Refusals.{refused_first, done_rest, if_done_done, if_done_refused}
 use Rattle.theory.specs.AcceptedEdits.{Begun}
+use Rattle.plan.specs.declared.Refusal.{Refusal}
+use Rattle.plan.specs.Structs.{plain, refused, answer_of, value_or, refused_number}
 use Rattle.edit.specs.Contract.{GivesAlone, Gives}
 use Rattle.edit.specs.Rows.{front_rows, rows_parts, front_numbered, front_allowed}
 use Rattle.stored.specs.Changes.{Changes, Editable}
 
--- ---- the ends of an edit whose test of rows 1 to 11 answered a
-module _ (ss : List Stage) (M p : ℕ) (v : ℤ) (f r : List ℤ) (nw : ℕ) {a : Answer} (e : a ≡ first_of (front_rows ss M p v f (length r) nw)) where
+-- ---- the ends of an edit, by what its test of rows 1 to 11 answered
+module _ (ss : List Stage) (M p : ℕ) (v : ℤ) (f r : List ℤ) (nw : ℕ) where
   abbrev d : ℤ
   d = v -ℤ at f p
 
-  pub edit_refused : (a.number ≡ 0 → ⊥) → (w : List ℤ) → length w ≡ nw → GivesAlone (edit_series fold ss M p v f r w) a 0 f r
+  pub edit_refused : (x : Refusal) (q : Result ℕ Refusal) → IsErrAnd q (λ y. y ≡ x) → refused x ≡ first_of (front_rows ss M p v f (length r) nw)
+      → (w : List ℤ) → length w ≡ nw → GivesAlone (edit_series fold ss M p v f r w) (answer_of q) (value_or 0 q) f r
   unfolding edit_series
-  edit_refused h w l =
-      let all = refused_first _ _ e h ∙ sym (ap first_of (rows_parts ss M p v f r (gained fold ss p d r) nw)) in
-      rw (l, ← all) (record { answer = refl; count = sym (if_done_refused a _ 0 h); samples = sym (if_done_refused a _ f h); results = sym (if_done_refused a _ r h) })
+  edit_refused x q h e w l =
+      let o = err_from_is_err_and q h in
+      let all = refused_first _ _ e (refused_number x) ∙ sym (ap first_of (rows_parts ss M p v f r (gained fold ss p d r) nw)) in
+      let n = refused_number x in
+      rw (o.1, o.2, l, ← all) (record { answer = refl; count = sym (if_done_refused (refused x) _ 0 n); samples = sym (if_done_refused (refused x) _ f n); results = sym (if_done_refused (refused x) _ r n) })
 
-  module _ (z : a.number ≡ 0) where
+  module _ (e : plain 0 ≡ first_of (front_rows ss M p v f (length r) nw)) where
     begun : Begun ss M p v f (length r) nw × (nat_abs (at f p) ≤ M)
-    begun = front_allowed ss M p v f (length r) nw e z
+    begun = front_allowed ss M p v f (length r) nw e
 
     pub position_inside : p < length f
     position_inside = begun.0.position
@@ -47,22 +53,29 @@ module _ (ss : List Stage) (M p : ℕ) (v : ℤ) (f r : List ℤ) (nw : ℕ) {a 
 
     module _ {b : Answer} {k : ℕ} {left : List ℤ} (h : Changes ss (M * divisor ss) p (v -ℤ at f p) r b k left) where
       all : b ≡ first_of (edit_rows ss M p v f r (gained fold ss p (v -ℤ at f p) r) nw)
-      all = done_rest _ _ (front_numbered ss M p v f (length r) nw) e z h.answer ∙ sym (ap first_of (rows_parts ss M p v f r (gained fold ss p d r) nw))
+      all = done_rest _ _ (front_numbered ss M p v f (length r) nw) e refl h.answer ∙ sym (ap first_of (rows_parts ss M p v f r (gained fold ss p d r) nw))
 
-      pub edit_too_large : (b.number ≡ 0 → ⊥) → (w : List ℤ) → length w ≡ nw → GivesAlone (edit_series fold ss M p v f r w) b k f left
-      unfolding edit_series
-      edit_too_large n w l = rw (l, ← all) (record { answer = refl; count = h.count; samples = sym (if_done_refused b _ f n); results = h.results })
+    pub edit_too_large : (x : Refusal) (q : Result ℕ Refusal) → IsErrAnd q (λ y. y ≡ x) → {left : List ℤ} → Changes ss (M * divisor ss) p (v -ℤ at f p) r (refused x) 0 left
+        → (w : List ℤ) → length w ≡ nw → GivesAlone (edit_series fold ss M p v f r w) (answer_of q) (value_or 0 q) f left
+    unfolding edit_series
+    edit_too_large x q i h w l =
+        let o = err_from_is_err_and q i in
+        rw (o.1, o.2, l, ← all h) (record { answer = refl; count = h.count; samples = sym (if_done_refused (refused x) _ f (refused_number x)); results = h.results })
 
-      pub edit_done : b.number ≡ 0 → {u : ℤ} → u ≡ v → (w : List ℤ) → length w ≡ nw → GivesAlone (edit_series fold ss M p v f r w) b k (set f p u) left
-      unfolding edit_series
-      edit_done n g w l = rw (l, ← all) (record { answer = refl; count = h.count; samples = ap (set f p) g ∙ sym (if_done_done b _ f n); results = h.results })
+    pub edit_done : {k : ℕ} {left : List ℤ} → Changes ss (M * divisor ss) p (v -ℤ at f p) r (plain 0) k left → {u : ℤ} → u ≡ v
+        → (w : List ℤ) → length w ≡ nw → GivesAlone (edit_series fold ss M p v f r w) (plain 0) k (set f p u) left
+    unfolding edit_series
+    edit_done h g w l = rw (l, ← all h) (record { answer = refl; count = h.count; samples = ap (set f p) g ∙ sym (if_done_done _ _ f refl); results = h.results })
 
 -- ---- the ends of the call, which clears its work where the edit is done
-module _ (ss : List Stage) (M p : ℕ) (v : ℤ) (f r w : List ℤ) {a : Answer} {k : ℕ} {g s : List ℤ} (e : GivesAlone (edit_series fold ss M p v f r w) a k g s) where
-  pub call_refused : (a.number ≡ 0 → ⊥) → Gives (edit_series fold ss M p v f r w) a k g s w
+module _ (ss : List Stage) (M p : ℕ) (v : ℤ) (f r w : List ℤ) {g s : List ℤ} where
+  pub call_refused : (x : Refusal) (q : Result ℕ Refusal) → IsErrAnd q (λ y. y ≡ x) → GivesAlone (edit_series fold ss M p v f r w) (refused x) 0 g s
+      → Gives (edit_series fold ss M p v f r w) (answer_of q) (value_or 0 q) g s w
   unfolding edit_series
-  call_refused h = record { answer = e.answer; count = e.count; samples = e.samples; results = e.results; work = sym (if_done_refused _ _ w (rw (← e.answer) h)) }
+  call_refused x q h e =
+      let o = err_from_is_err_and q h in
+      rw (o.1, o.2) (record { answer = e.answer; count = e.count; samples = e.samples; results = e.results; work = sym (if_done_refused _ _ w (rw (← e.answer) (refused_number x))) })
 
-  pub call_done : a.number ≡ 0 → {x : List ℤ} → x ≡ zeros w → Gives (edit_series fold ss M p v f r w) a k g s x
+  pub call_done : {k : ℕ} → GivesAlone (edit_series fold ss M p v f r w) (plain 0) k g s → {x : List ℤ} → x ≡ zeros w → Gives (edit_series fold ss M p v f r w) (plain 0) k g s x
   unfolding edit_series
-  call_done z t = record { answer = e.answer; count = e.count; samples = e.samples; results = e.results; work = t ∙ sym (if_done_done _ _ w (rw (← e.answer) z)) }
+  call_done e t = record { answer = e.answer; count = e.count; samples = e.samples; results = e.results; work = t ∙ sym (if_done_done _ _ w (rw (← e.answer) refl)) }

@@ -2,11 +2,11 @@
 ghost use Rattle.std.specs.Prelude.{ℤ, ◌≡◌, List, length};
 ghost use Rattle.meaning.specs.Extension.{fold};
 ghost use Rattle.meaning.specs.Calls.{asked, edit_series};
-ghost use Rattle.plan.specs.Structs.{stages_of, edit_answer};
+ghost use Rattle.plan.specs.Structs.{stages_of, answer_of, value_or};
 ghost use Rattle.edit.specs.Contract.{GivesAlone};
 
 use crate::testing;
-use plan::{Edited, Plan};
+use plan::{Plan, Refusal};
 
 // The edit of a call that is lent so many cells of work, whatever they hold.
 pub fn edit_within(
@@ -17,25 +17,14 @@ pub fn edit_within(
     samples: &mut [i32],
     results: &mut [i64],
     room: usize,
-) -> Edited
-    ensures { (w : List ℤ) → length w ≡ room → GivesAlone (edit_series fold (stages_of plan) bound position value samples.old results.old w) (edit_answer result) result.count samples.new results.new }
+) -> Result<usize, Refusal>
+    ensures { (w : List ℤ) → length w ≡ room → GivesAlone (edit_series fold (stages_of plan) bound position value samples.old results.old w) (answer_of result) (value_or 0 result) samples.new results.new }
 {
-    let answer = testing::refusal(plan, bound, position, value, samples, results.len(), room);
-    if answer.number != 0 {
-        return Edited {
-            number: answer.number,
-            position: answer.position,
-            count: 0,
-            bad: answer.bad,
-        };
-    }
-    let change = value - samples[position] as i64;
-    let edited = stored::inner::edit_results(plan, bound, position, change, results);
-    if edited.number != 0 {
-        return edited;
-    }
+    testing::allowed(plan, bound, position, value, samples, results.len(), room)?;
+    let change = value - i64::from(samples[position]);
+    let count = stored::inner::edit_results(plan, bound, position, change, results)?;
     samples[position] = value as i32;
-    edited
+    Ok(count)
 }
 
 // The edit of a call that is lent as much work as it asks.
@@ -46,8 +35,8 @@ pub fn edit_alone(
     value: i64,
     samples: &mut [i32],
     results: &mut [i64],
-) -> Edited
-    ensures { GivesAlone (edit_series fold (stages_of plan) bound position value samples.old results.old (asked (stages_of plan) (length samples.old))) (edit_answer result) result.count samples.new results.new }
+) -> Result<usize, Refusal>
+    ensures { GivesAlone (edit_series fold (stages_of plan) bound position value samples.old results.old (asked (stages_of plan) (length samples.old))) (answer_of result) (value_or 0 result) samples.new results.new }
 {
     let room = refusals::inner::edit_room(samples.len());
     edit_within(plan, bound, position, value, samples, results, room)

@@ -3,15 +3,15 @@
 
 ghost use Rattle.meaning.specs.Extension.{fold};
 ghost use Rattle.meaning.specs.Calls.{edit_series};
-ghost use Rattle.plan.specs.Structs.{stages_of, edit_answer};
+ghost use Rattle.plan.specs.Structs.{stages_of, answer_of, value_or};
 ghost use Rattle.edit.specs.Contract.{Gives};
 
-use plan::{Edited, Plan};
+use plan::{Plan, Refusal};
 
 pub mod inner;
 mod testing;
 
-// Sets sample `position` to the value, gives each result within reach its gain, and leaves zeros in work. A refused call changes no cell.
+// Sets sample `position` to the value, gives each result within reach its gain, and leaves zeros in work. Answers how many results change. A refused call changes no cell.
 pub fn edit_series(
     plan: Plan,
     bound: u64,
@@ -20,14 +20,11 @@ pub fn edit_series(
     samples: &mut [i32],
     results: &mut [i64],
     work: &mut [i64],
-) -> Edited
-    ensures { Gives (edit_series fold (stages_of plan) bound position value samples.old results.old work.old) (edit_answer result) result.count samples.new results.new work.new }
+) -> Result<usize, Refusal>
+    ensures { Gives (edit_series fold (stages_of plan) bound position value samples.old results.old work.old) (answer_of result) (value_or 0 result) samples.new results.new work.new }
 {
     let room = work.len();
-    let edited = inner::edit_within(plan, bound, position, value, samples, results, room);
-    if edited.number != 0 {
-        return edited;
-    }
+    let count = inner::edit_within(plan, bound, position, value, samples, results, room)?;
     pass::inner::clear(work);
-    edited
+    Ok(count)
 }

@@ -1,14 +1,17 @@
 -- What a point promises.
---   Tells o q     the answer q is that of the outcome o
+--   Tells o q     the end q is that of the outcome o: its answer, and its value, plus zero where it is refused
 --   Gives o q w   and the work w that the call leaves is too
-use Rattle.std.specs.Prelude.{◌≡◌, List, ℤ}
+use Rattle.std.specs.Prelude.{◌≡◌, List, ℤ, Float, Result}
+use Rattle.meaning.specs.Values.{plus_zero}
 use Rattle.meaning.specs.Calls.{Pointed}
-use Rattle.plan.specs.declared.Point.{Point}
-use Rattle.plan.specs.Structs.{point_of}
+use Rattle.plan.specs.declared.Refusal.{Refusal}
+use Rattle.plan.specs.Structs.{answer_of, value_or}
 
-abbrev pub Tells : Pointed → Point → Type 0
-Tells o q = q ≡ point_of o.answer o.value
+pub record Tells (o : Pointed) (q : Result Float Refusal) : Type 0 where
+  pub answer : answer_of q ≡ o.answer
+  pub value : value_or plus_zero q ≡ o.value
 
-pub record Gives (o : Pointed) (q : Point) (w : List ℤ) : Type 0 where
-  pub answer : q ≡ point_of o.answer o.value
+pub record Gives (o : Pointed) (q : Result Float Refusal) (w : List ℤ) : Type 0 where
+  pub answer : answer_of q ≡ o.answer
+  pub value : value_or plus_zero q ≡ o.value
   pub work : w ≡ o.work

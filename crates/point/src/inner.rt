@@ -6,22 +6,25 @@ ghost use Rattle.plan.specs.Structs.{stages_of};
 ghost use Rattle.point.specs.Contract.{Tells};
 
 use crate::testing;
-use plan::{Plan, Point};
+use plan::{Plan, Refusal};
 
 // The point of a call that is lent so many cells of work, whatever they hold.
-pub fn point_within(plan: Plan, bound: u64, position: usize, samples: &[i32], room: usize) -> Point
+pub fn point_within(
+    plan: Plan,
+    bound: u64,
+    position: usize,
+    samples: &[i32],
+    room: usize,
+) -> Result<f64, Refusal>
     ensures { (w : List ℤ) → length w ≡ room → Tells (C.point fold (stages_of plan) bound position samples.now w) result }
 {
-    let answer = testing::refusal(plan, bound, position, samples, room);
-    if answer.number != 0 {
-        return Point::Refused(answer.number, answer.position, answer.bad);
-    }
+    testing::allowed(plan, bound, position, samples, room)?;
     let result = result::inner::result(plan, samples, position);
-    Point::Value(doubles::inner::ratio(result, plan.divisor()))
+    Ok(doubles::inner::ratio(result, plan.divisor()))
 }
 
 // The point of a call that is lent as much work as it asks.
-pub fn point_alone(plan: Plan, bound: u64, position: usize, samples: &[i32]) -> Point
+pub fn point_alone(plan: Plan, bound: u64, position: usize, samples: &[i32]) -> Result<f64, Refusal>
     ensures { Tells (C.point fold (stages_of plan) bound position samples.now (C.asked (stages_of plan) (length samples.now))) result }
 {
     let room = refusals::inner::edit_room(samples.len());

@@ -6,19 +6,22 @@ ghost use Rattle.meaning.specs.Calls as C;
 ghost use Rattle.plan.specs.Structs.{stages_of};
 ghost use Rattle.point.specs.Contract.{Gives};
 
-use plan::{Plan, Point};
+use plan::{Plan, Refusal};
 
 pub mod inner;
 mod testing;
 
 // The result at `position` over the divisor, and zeros left in work. A refused call changes no cell.
-pub fn point(plan: Plan, bound: u64, position: usize, samples: &[i32], work: &mut [i64]) -> Point
+pub fn point(
+    plan: Plan,
+    bound: u64,
+    position: usize,
+    samples: &[i32],
+    work: &mut [i64],
+) -> Result<f64, Refusal>
     ensures { Gives (C.point fold (stages_of plan) bound position samples.now work.old) result work.new }
 {
-    let answer = inner::point_within(plan, bound, position, samples, work.len());
-    let Point::Value(value) = answer else {
-        return answer;
-    };
+    let value = inner::point_within(plan, bound, position, samples, work.len())?;
     pass::inner::clear(work);
-    Point::Value(value)
+    Ok(value)
 }

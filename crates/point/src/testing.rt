@@ -2,32 +2,24 @@
 ghost use Rattle.std.specs.Prelude.{◌≡◌};
 ghost use Rattle.meaning.specs.Refusals as R;
 ghost use Rattle.meaning.specs.Calls as C;
-ghost use Rattle.plan.specs.Structs.{stages_of, checked_answer};
+ghost use Rattle.plan.specs.Structs.{stages_of, answer_of};
 
-use plan::{Checked, Plan};
+use plan::{Plan, Refusal};
+use refusals::inner::{edit_room, position_allowed, samples_allowed, within_reach};
 
-// What a point answers where it is refused: of the samples only those within reach are looked at.
-pub(crate) fn refusal(
+// Of the samples only those within reach are looked at.
+pub(crate) fn allowed(
     plan: Plan,
     bound: u64,
     position: usize,
     samples: &[i32],
     work: usize,
-) -> Checked
-    ensures { checked_answer result ≡ R.first_of (C.point_rows (stages_of plan) bound position samples.now work) }
+) -> Result<(), Refusal>
+    ensures { answer_of result ≡ R.first_of (C.point_rows (stages_of plan) bound position samples.now work) }
 {
     let n = samples.len();
-    let wrong_length = work != refusals::inner::edit_room(n);
-    let number = refusals::inner::position_refusal(plan, bound, n, wrong_length, position);
-    if number != 0 {
-        return Checked {
-            number,
-            position: 0,
-            bad: 0,
-        };
-    }
-    let reach = plan.reach() as usize;
-    let start = refusals::inner::reach_start(position, reach);
-    let end = refusals::inner::reach_end(n, position, reach);
-    refusals::inner::sample_refusal(bound, samples, start, end)
+    let wrong_length = work != edit_room(n);
+    position_allowed(plan, bound, n, wrong_length, position)?;
+    let span = within_reach(n, position, plan.reach() as usize);
+    samples_allowed(bound, samples, span)
 }
