@@ -1,3 +1,5 @@
 -- The words of this crate's contracts.
 --   Checksum   what is printed of a long slice
+--   Doubles    doubles and the words that they were read from
 pub mod Checksum
+pub mod Doubles

@@ -1,5 +1,8 @@
 // A stream: 8-byte words come in, high byte first, and lines of words go out, one space between two.
-ghost use Rattle.std.specs.Prelude.{◌≡◌, ◌≤◌, IfOk, vec_len};
+ghost use Rattle.std.specs.Prelude.{◌≡◌, ◌≤◌, IfOk, vec_len, map, from_bits};
+ghost use lib.Ieee.{binary64};
+ghost use Rattle.std.specs.List.{zip};
+ghost use Rattle.calls_stream.specs.Doubles.{bits_of};
 
 use crate::inner::checksum::checksum;
 use crate::inner::element::Element;
@@ -54,7 +57,8 @@ pub struct Doubles {
 impl Doubles {
     // Of a NaN, the word that it was read from.
     fn bits(&self, alloc: Global) -> Result<Vec<u64>, AllocError>
-        ensures { IfOk result (λ v. vec_len v ≡ vec_len self.now.values) }
+        ensures length { IfOk result (λ v. vec_len v ≡ vec_len self.now.values) }
+        ensures value { IfOk result (λ v. v.items ≡ map bits_of (zip self.now.values.items self.now.words.items)) }
     {
         self.values
             .iter()
@@ -138,7 +142,9 @@ impl<R: Read, W: Write> Stream<R, W> {
     }
 
     // A slice of doubles, each given as its bits.
-    pub fn doubles(&mut self) -> Result<Doubles, Ended> {
+    pub fn doubles(&mut self) -> Result<Doubles, Ended>
+        ensures { IfOk result (λ d. d.values.items ≡ map (from_bits binary64) d.words.items) }
+    {
         let words = self.slice::<u64>()?;
         let values = words
             .iter()
