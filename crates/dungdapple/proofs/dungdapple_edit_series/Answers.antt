@@ -1,4 +1,5 @@
 -- The numbers that were taken, the call, and its answer told.
+use mathlib.Core.Path.{◌∙◌}
 use native.Mathlib.Omega.{arith}
 use lib.ListN.{length}
 use mir.Syntax.{w64}
@@ -15,7 +16,7 @@ pub overflow_cast-count : goal.overflow_cast-count
 overflow_cast-count c =
     let a = c.args in
     let ss = stages_of c.plan-numbers.result in
-    fits_as c.edit_alone-edited.ensures.count (narrow_count fold ss c.count-most.result c.count-at.result (to_z w64 (of_z w64 c.whole-new.result)) a.samples.now a.results.now (C.asked ss (length a.samples.now))) (omega arith)
+    fits_as (c.unwrap_or.ensures ∙ c.edit_alone-edited.ensures.count) (narrow_count fold ss c.count-most.result c.count-at.result (to_z w64 (of_z w64 c.whole-new.result)) a.samples.now a.results.now (C.asked ss (length a.samples.now))) (omega arith)
 
 pub checked-requires : goal.checked-requires
 checked-requires c =
