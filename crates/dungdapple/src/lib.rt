@@ -255,9 +255,9 @@ pub fn dungdapple_carry_picture(
     ensures { Carries (carrying.carry_picture (stages_in across.now) (stages_in down.now) (count_of bound) (count_of width) (count_of height) results.now cells.old) (said result place.new 0) carry.new cells.new }
 {
     let raster = arguments::inner::raster(across, down, bound, width, height);
-    let carried = carry::carry_picture(raster, results, cells);
-    *carry = carried.unwrap_or(0) as f64;
-    answers::inner::told(carried, place)
+    let run = carry::carry_picture(raster, results, cells);
+    *carry = run.unwrap_or(0) as f64;
+    answers::inner::told(run, place)
 }
 
 // Each result over the divisor as a double, by one division.

@@ -48,7 +48,7 @@ use Rattle.theory.specs.Edits.{length_gained, gained_near, gained_far, gained_ch
 use Rattle.theory.specs.Counts.{changed_none}
 use Rattle.plan.specs.declared.Plan.{Plan}
 use Rattle.plan.specs.declared.Refusal.{Refusal}
-use Rattle.plan.specs.Structs.{stages_of, answer_of}
+use Rattle.plan.specs.Structs.{stages_of, answer_of, value_or, one_end}
 use Rattle.edit.specs.Contract.{Gives}
 use Rattle.edit.proofs.edit_series.Reads as edit-series
 use Rattle.edit.proofs.edit_series.Kinds as kinds
@@ -96,7 +96,7 @@ abbrev pub place : EditCall → ℕ
 place c = (answer_of c.answered).position
 
 abbrev pub count : EditCall → ℕ
-count c = count_of c.answered
+count c = value_or 0 c.answered
 
 abbrev pub bad : EditCall → ℕ
 bad c = (answer_of c.answered).bad

@@ -231,7 +231,7 @@ pub host_point_is : (h : PointHost) (c : PointCall) → point_taken h ≡ (numbe
 host_point_is h c e n =
     point_is h.learnt ∙ ap (λ (x : PointTaken). point_outcome x (asked_by x.0 x.3)) e
     ∙ point_work (numbers_of (points.plan c), points.bound c, points.position c, points.samples c) (points.work c) n
-    ∙ sym (point_is (law.both (points.stages c) (points.bound c) (points.position c) (points.samples c) (points.work c) c.learnt.answer))
+    ∙ sym (point_is (law.both (points.stages c) (points.bound c) (points.position c) (points.samples c) (points.work c) (record { answer = c.learnt.answer; value = c.learnt.value })))
 
 -- ---- an argument that is refused
 module _ (x : SeriesTaken) where

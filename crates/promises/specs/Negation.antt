@@ -17,7 +17,6 @@ use Rattle.meaning.specs.Values.{nearest_even, rounded, output_rows, mode_rows}
 use Rattle.theory.specs.Negated.{results_negated, picture_negated, nearest_even_negated_each, smooth_negated, output_negated}
 use Rattle.plan.specs.declared.Plan.{Plan}
 use Rattle.plan.specs.Structs.{stages_of, answer_of, one_answer}
-use Rattle.plan.specs.declared.Checked.{Checked}
 use Rattle.promises.specs.Smoothings.{answers}
 use Rattle.promises.specs.Outputs.{Output, each, output_whole, series_smoothed, picture_smoothed}
 use Rattle.promises.specs.WholeNumbers.{SeriesDefault, PictureDefault, WholeSeries, WholePicture, series_by_default, picture_by_default, of_series, of_picture, whole_series_allowed, whole_picture_allowed}

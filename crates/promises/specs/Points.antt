@@ -23,8 +23,8 @@
 --   point_smoothed     so it is that of the result which a call of smoothing leaves there, under the same plan, on the same samples
 --   point_local        under one plan, bound, position and length of work, series of equal length that agree within reach get the same answer, refusals and the number of bad samples included, whatever work held
 --   point_one          two outcomes that the contract allows are the same
-use Rattle.std.specs.Prelude.{ℕ, ◌+◌, ◌*◌, ◌^◌, ◌≤◌, ◌<◌, ◌≡◌, refl, ◌≢◌, length, ℤ, pos, nat_abs, ◌-ℤ◌, ◌*ℤ◌, Float}
-use Rattle.std.proofs.Common.{sym, ap₂, ◌∙◌, subst}
+use Rattle.std.specs.Prelude.{ℕ, ◌+◌, ◌*◌, ◌^◌, ◌≤◌, ◌<◌, ◌≡◌, refl, ◌≢◌, length, ℤ, pos, nat_abs, ◌-ℤ◌, ◌*ℤ◌, Float, Result, Ok, Err}
+use Rattle.std.proofs.Common.{sym, ◌∙◌, subst, eq-eqb, ne_eqb}
 use Rattle.std.proofs.Math.Path.{ap}
 use mathlib.Core.List.{List}
 use Rattle.std.specs.Int.Signed.{lt_z}
@@ -56,10 +56,8 @@ use Rattle.theory.specs.Values.{whole_exact, ratio_zero}
 use Rattle.theory.specs.Accepted.{length_accepted, divisor_allowed}
 use Rattle.theory.specs.AcceptedPoints as tested
 use Rattle.plan.specs.declared.Plan.{Plan}
-use Rattle.plan.specs.declared.Point.{Point}
-use Rattle.plan.specs.declared.Point.TheVariants.{Value, Refused}
-use Rattle.plan.specs.Structs.{stages_of, point_answer, point_value, point_of, point_of_done, point_of_refused, point_answer_of}
-use Rattle.point.specs.Steps.{not_both}
+use Rattle.plan.specs.declared.Refusal.{Refusal}
+use Rattle.plan.specs.Structs.{stages_of, answer_of, value_or, refusal_of, end_of, end_back, one_end, refused_number}
 use Rattle.point.proofs.point.Reads as point
 use Rattle.point.proofs.point.Kinds as kinds
 use Rattle.promises.specs.Smoothings.{Exactly}
@@ -95,16 +93,16 @@ abbrev pub work : PointCall → List ℤ
 work c = c.given.1.1.1.1.0.now
 
 abbrev pub number : PointCall → ℕ
-number c = (point_answer c.answered).number
+number c = (answer_of c.answered).number
 
 abbrev pub place : PointCall → ℕ
-place c = (point_answer c.answered).position
+place c = (answer_of c.answered).position
 
 abbrev pub bad : PointCall → ℕ
-bad c = (point_answer c.answered).bad
+bad c = (answer_of c.answered).bad
 
 abbrev pub value : PointCall → Float
-value c = point_value c.answered
+value c = value_or plus_zero c.answered
 
 abbrev pub work_left : PointCall → List ℤ
 work_left c = c.left.1.1.1.1.0.now
@@ -129,24 +127,21 @@ abbrev outcome : PointCall → outcomes.Pointed
 outcome c = outcomes.point fold (stages c) (bound c) (position c) (samples c) (work c)
 
 module _ (c : PointCall) where
-  whole : c.answered ≡ point_of (first_of (rows c)) (outcome c).value
+  answer_is : answer_of c.answered ≡ first_of (rows c)
   unfolding outcomes.point
-  whole = c.learnt.answer
-
-  answer_is : point_answer c.answered ≡ first_of (rows c)
-  answer_is = ap point_answer whole ∙ point_answer_of _ _ (λ e. off_done (rows c) (done_off (rows c) (tested.point_numbered _ _ _ _ _) e))
+  answer_is = c.learnt.answer
 
   number_is : number c ≡ (first_of (rows c)).number
   number_is = ap (λ (x : meant.Answer). x.number) answer_is
 
-  is_value : number c ≡ 0 → c.answered ≡ Value (value c)
-  is_value e = let k = whole ∙ point_of_done _ _ (sym number_is ∙ e) in k ∙ ap Value (sym (ap point_value k))
+  is_value : number c ≡ 0 → c.answered ≡ Ok (value c)
+  is_value e = sym (end_back plus_zero c.answered) ∙ rw (eq-eqb (number c) 0 e)
 
-  is_refused : number c ≢ 0 → c.answered ≡ Refused (number c) (place c) (bad c)
-  is_refused h = whole ∙ point_of_refused _ _ (λ e. h (number_is ∙ e)) ∙ ap (λ (x : meant.Answer). Refused x.number x.position x.bad) (sym answer_is)
+  is_refused : number c ≢ 0 → c.answered ≡ Err (refusal_of (answer_of c.answered))
+  is_refused h = sym (end_back plus_zero c.answered) ∙ rw (ne_eqb (number c) 0 h)
 
-  pub point_case : Exactly (number c ≡ 0) (c.answered ≡ Value (value c)) × Exactly (number c ≢ 0) (c.answered ≡ Refused (number c) (place c) (bad c))
-  point_case = ((is_value, λ k. ap (λ (q : Point). (point_answer q).number) k), (is_refused, λ k e. not_both (sym (is_value e) ∙ k)))
+  pub point_case : Exactly (number c ≡ 0) (c.answered ≡ Ok (value c)) × Exactly (number c ≢ 0) (c.answered ≡ Err (refusal_of (record { number = number c; position = place c; bad = bad c })))
+  point_case = ((is_value, λ k. ap (λ (q : Result Float Refusal). (answer_of q).number) k), (is_refused, λ k e. refused_number _ (sym (ap (λ (q : Result Float Refusal). (answer_of q).number) k) ∙ e)))
 
   pub point_lowest : (number c ≢ 0 → Applies (number c) (rows c)) × ((n : ℕ) → Applies n (rows c) → number c ≤ n)
   point_lowest = number_lowest (rows c) number_is (tested.point_rising _ _ _ _ _)
@@ -163,12 +158,12 @@ module _ (c : PointCall) where
   pub point_place_other : number c ≢ 11 → place c ≡ 0
   point_place_other = tested.point_no_position _ _ _ _ _ answer_is
 
-  pub point_bad : Counted (λ i. Near c i × (bound c < nat_abs (at (samples c) i))) (length (samples c)) (rows c) (point_answer c.answered)
+  pub point_bad : Counted (λ i. Near c i × (bound c < nat_abs (at (samples c) i))) (length (samples c)) (rows c) (answer_of c.answered)
   point_bad = tested.point_bad _ _ _ _ _ answer_is
 
   pub point_unchanged : number c ≢ 0 → (work_left c ≡ work c) × (value c ≡ plus_zero)
   unfolding outcomes.point
-  point_unchanged h = (c.learnt.work ∙ if_done_refused _ _ _ (λ e. h (number_is ∙ e)), ap point_value (is_refused h))
+  point_unchanged h = (c.learnt.work ∙ if_done_refused _ _ _ (λ e. h (number_is ∙ e)), ap (value_or plus_zero) (is_refused h))
 
   pub point_over : divisor (stages c) ≡ ((2 * (plan c).radius + 1) * (plan c).inner + 2 * (plan c).edge) ^ (plan c).passes
   point_over = divisor_plan _ _ _ _
@@ -184,7 +179,7 @@ module _ (c : PointCall) where
 
     pub point_value_lem : value c ≡ ratio (result c) (divisor (stages c))
     unfolding outcomes.point smoothing.result smoothing.convolved
-    point_value_lem = ap point_value (whole ∙ point_of_done _ _ done) ∙ if_done_done _ _ _ done
+    point_value_lem = c.learnt.value ∙ if_done_done _ _ _ done
 
     accepted : AcceptedPlan (stages c)
     accepted = length_accepted (point_allowed.0 e).common
@@ -210,9 +205,6 @@ module _ (c : PointCall) where
     point_smoothed x d p f = point_fresh (smoothed x) (subst (λ (q : Plan). Fresh q (smoothed x)) p (done_whole x d)) f
 
 -- ---- two calls
-abbrev answer : outcomes.Pointed → Point
-answer o = point_of o.answer o.value
-
 outcome_same : {p q : Plan} {M L i j : ℕ} {f g w x : List ℤ} → p ≡ q → M ≡ L → i ≡ j → f ≡ g → w ≡ x → outcomes.point fold (stages_of p) M i f w ≡ outcomes.point fold (stages_of q) L j g x
 outcome_same p m i f w = rw (p, m, i, f, w) refl
 
@@ -220,9 +212,10 @@ pub point_local : (c d : PointCall) → plan c ≡ plan d → bound c ≡ bound 
     → length (samples c) ≡ length (samples d) → ((i : ℕ) → i < length (samples c) → Near c i → at (samples c) i ≡ at (samples d) i) → c.answered ≡ d.answered
 point_local c d p m i w n k =
     let (a, x) = tested.point_local (stages c) (bound c) (position c) (samples c) (samples d) n k half_sample_near (work c) (work d) w in
-    c.learnt.answer ∙ ap₂ point_of a x ∙ ap answer (outcome_same p m i refl refl) ∙ sym d.learnt.answer
+    let e = outcome_same p m i refl refl in
+    one_end plus_zero _ _ (c.learnt.answer ∙ a ∙ ap (λ (o : outcomes.Pointed). o.answer) e ∙ sym d.learnt.answer) (c.learnt.value ∙ x ∙ ap (λ (o : outcomes.Pointed). o.value) e ∙ sym d.learnt.value)
 
 pub point_one : (c d : PointCall) → plan c ≡ plan d → bound c ≡ bound d → position c ≡ position d → samples c ≡ samples d → work c ≡ work d → (c.answered ≡ d.answered) × (work_left c ≡ work_left d)
 point_one c d p m i f w =
     let e = outcome_same p m i f w in
-    (c.learnt.answer ∙ ap answer e ∙ sym d.learnt.answer, c.learnt.work ∙ ap (λ (o : outcomes.Pointed). o.work) e ∙ sym d.learnt.work)
+    (one_end plus_zero _ _ (c.learnt.answer ∙ ap (λ (o : outcomes.Pointed). o.answer) e ∙ sym d.learnt.answer) (c.learnt.value ∙ ap (λ (o : outcomes.Pointed). o.value) e ∙ sym d.learnt.value), c.learnt.work ∙ ap (λ (o : outcomes.Pointed). o.work) e ∙ sym d.learnt.work)

@@ -33,8 +33,7 @@ use Rattle.meaning.specs.Encoding.{bytes, number}
 use Rattle.meaning.specs.Record.{Job, field, sample_bytes, record_of, begins, reading, read_record, record_size}
 use Rattle.theory.specs.OwnRows.{own_rest}
 use Rattle.plan.specs.declared.Plan.{Plan}
-use Rattle.plan.specs.declared.Point.{Point}
-use Rattle.plan.specs.Structs.{stage_of, stages_of, answer_of, point_answer, point_of_done}
+use Rattle.plan.specs.Structs.{stage_of, stages_of, answer_of}
 use Rattle.edit.specs.Contract.{Gives}
 use Rattle.promises.specs.Smoothings.{number_done}
 use Rattle.promises.specs.SmoothSeries as series
@@ -179,7 +178,7 @@ point_number p m i f k = rw (p, m, i, f, k) refl
 
 pub point_not_refused : (c : PointCall) → points.plan c ≡ planned 1 → points.bound c ≡ 9 → points.position c ≡ 2 → points.samples c ≡ spike → length (points.work c) ≡ 10 → points.number c ≡ 0
 unfolding point
-point_not_refused c p m i f w = ap (λ (q : Point). (point_answer q).number) (c.learnt.answer ∙ point_of_done _ _ (point_number p m i f w))
+point_not_refused c p m i f w = ap (λ (a : meant.Answer). a.number) c.learnt.answer ∙ point_number p m i f w
 
 double_number : {M n : ℕ} {xs : List Float} → M ≡ 9 → xs ≡ fin true 0 (pos 0) ∷ fin true 9 (pos 0) ∷ [] → n ≡ 2 → (first_of (double_rows M xs n)).number ≡ 0
 unfolding double_rows takes first_of first_where row_at

@@ -12,7 +12,7 @@ use Rattle.dungdapple.proofs.dungdapple_carry_picture.Goals as goal
 pub int_to_float-carry : goal.int_to_float-carry
 int_to_float-carry c =
     let a = c.args in
-    carry_picture_held c.raster-raster.result.bound a.results.now a.cells.now (stages_of c.raster-raster.result.across) (stages_of c.raster-raster.result.down) c.raster-raster.result.width c.raster-raster.result.height (c.unwrap_or.ensures ∙ c.carry_picture-carried.ensures.carry)
+    carry_picture_held c.raster-raster.result.bound a.results.now a.cells.now (stages_of c.raster-raster.result.across) (stages_of c.raster-raster.result.down) c.raster-raster.result.width c.raster-raster.result.height (c.unwrap_or.ensures ∙ c.carry_picture-run.ensures.carry)
 
 pub told-requires : goal.told-requires
 told-requires c =
@@ -21,7 +21,7 @@ told-requires c =
     let vs = stages_of c.raster-raster.result.down in
     let W = c.raster-raster.result.width in
     let H = c.raster-raster.result.height in
-    let e = c.carry_picture-carried.ensures.answer in
+    let e = c.carry_picture-run.ensures.answer in
     record {
       narrow = narrow_as e (narrow_carried (picture_of hs vs W H) (picture_cells_lem hs vs W H) c.raster-raster.result.bound a.results.now a.cells.now);
       none_bad = ap (λ (x : Answer). x.bad) e ∙ carried_untested (picture_of hs vs W H) c.raster-raster.result.bound a.results.now a.cells.now;
