@@ -5,7 +5,7 @@
 --   whole_series_negated, whole_picture_negated     whole output in mode 0 of negated results answers the same, and where it is done leaves the negated cells
 --   samples_negated_series, samples_negated_picture   so negating all samples negates all outputs: where the smoothing is done, both whole outputs are, and the one leaves the negated cells of the other
 --   samples_negated_series_default, samples_negated_picture_default   the same of the forms without a mode
-use Rattle.std.specs.Prelude.{ℕ, ◌≡◌, List, ◌++◌, map, length, ℤ, neg_ℤ}
+use Rattle.std.specs.Prelude.{ℕ, ◌≡◌, List, ◌++◌, map, length, ℤ, neg_ℤ, Result, ⊤}
 use Rattle.std.proofs.Common.{sym, ap, ap₂, ◌∙◌, arith}
 use Rattle.std.proofs.lemmas.List.{length-map}
 use Rattle.meaning.specs.Extension.{fold}
@@ -16,6 +16,7 @@ use Rattle.meaning.specs.Calls.{smooth_rows}
 use Rattle.meaning.specs.Values.{nearest_even, rounded, output_rows, mode_rows}
 use Rattle.theory.specs.Negated.{results_negated, picture_negated, nearest_even_negated_each, smooth_negated, output_negated}
 use Rattle.plan.specs.declared.Plan.{Plan}
+use Rattle.plan.specs.declared.Refusal.{Refusal}
 use Rattle.plan.specs.Structs.{stages_of, answer_of, one_answer}
 use Rattle.promises.specs.Smoothings.{answers}
 use Rattle.promises.specs.Outputs.{Output, each, output_whole, series_smoothed, picture_smoothed}
@@ -109,7 +110,7 @@ pub samples_negated_series : {c d : series.SeriesCall} → NegatedSeries c d →
 samples_negated_series {c} {d} h e {v} {w} i j =
     let (a, r) = smooth_series_negated h in
     let vd = even_series_done i e in
-    let wd = even_series_done j (ap (λ (x : Checked). x.number) a ∙ e) in
+    let wd = even_series_done j (ap (λ (r : Result ⊤ Refusal). (answer_of r).number) a ∙ e) in
     let is : w.results ≡ map neg_ℤ v.results = j.results ∙ r e ∙ ap (map neg_ℤ) (sym i.results) in
     (vd, wd, (whole_series_negated v w i.mode j.mode (j.plan ∙ h.plan ∙ sym i.plan) (j.bound ∙ h.bound ∙ sym i.bound) is (j.cells ∙ ap length is ∙ length-map v.results neg_ℤ ∙ sym i.cells)).1 vd)
 
@@ -134,7 +135,7 @@ pub samples_negated_picture : {c d : pictures.PictureCall} → NegatedPicture c 
 samples_negated_picture {c} {d} h e {v} {w} i j =
     let (a, r) = smooth_picture_negated h in
     let vd = even_picture_done i e in
-    let wd = even_picture_done j (ap (λ (x : Checked). x.number) a ∙ e) in
+    let wd = even_picture_done j (ap (λ (r : Result ⊤ Refusal). (answer_of r).number) a ∙ e) in
     let is : w.results ≡ map neg_ℤ v.results = j.results ∙ r e ∙ ap (map neg_ℤ) (sym i.results) in
     (vd, wd, (whole_picture_negated v w i.mode j.mode (j.across ∙ h.across ∙ sym i.across) (j.down ∙ h.down ∙ sym i.down) (j.bound ∙ h.bound ∙ sym i.bound) (j.width ∙ h.width ∙ sym i.width) (j.height ∙ h.height ∙ sym i.height) is (j.cells ∙ ap length is ∙ length-map v.results neg_ℤ ∙ sym i.cells)).1 vd)
 
