@@ -1,4 +1,4 @@
-// Numbers as bytes, for the layers that read and write them. Nothing here is a public call.
+// Numbers as bytes, and a cursor that writes them, for the layers above. Nothing here is a public call.
 #![tactic(auto)]
 
 pub mod inner;
