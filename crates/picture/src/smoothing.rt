@@ -23,5 +23,5 @@ pub(crate) fn smooth_into(
         return;
     }
     smooth_into(across, down, k - 1, sides, samples, other, dst);
-    columns::inner::pass(down, sides.width, sides.height, other, dst);
+    columns::inner::pass(down, sides, other, dst);
 }
