@@ -1,5 +1,4 @@
 -- Rows 1 to 8, and where none applies row 11.
-use mathlib.Core.Path.{◌≡◌, ◌∙◌}
 use mathlib.Core.Bool.{◌||◌}
 use lib.ListN.{length}
 use Rattle.meaning.specs.Refusals.{differs, picture_of}

@@ -1,5 +1,6 @@
 -- Refused, or the result over the divisor. Of work only the length is tested.
 use mathlib.Core.Path.{◌∙◌}
+use mir.Syntax.{w64}
 use mir.Facts.{to_z-of_z}
 use mir.Syntax.{w64}
 use borrow.Author.Rules.{sfits_of}
