@@ -10,6 +10,7 @@ ghost use Rattle.pass.specs.Turn.{Windowed};
 ghost use Rattle.taps.specs.Taps.{mirrored, staged, taps_of, Held, Stageable, Ready};
 ghost use Rattle.taps.specs.Weigh.{strided_in, weight_in, Stridable, Weighable};
 
+pub use crate::lent::with_taps;
 use pass::inner::{cell, slide};
 use plan::Plan;
 

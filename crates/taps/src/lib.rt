@@ -2,4 +2,4 @@
 #![tactic(auto)]
 
 pub mod inner;
-pub mod lent;
+mod lent;
