@@ -23,13 +23,13 @@ module _ {d : ℕ} (r : List ℤ) (n : ℕ) (h : Quotient (at r n) d) where
   pub cell_dividend : Dividend (at r n +ℤ pos (carry d r n)) d
   cell_dividend =
       let z = at r n +ℤ pos (carry d r n) in
-      record { size = omega (zarith, h.size, h.product, h.divisor.1, carry_below h.divisor.0 r n, of_abs (at r n), of_abs z, of+ (at r n) (pos (carry d r n))); divisor = h.divisor }
+      record { size = omega (zarith, h.small, h.divisor.1, carry_below h.divisor.0 r n, of_abs (at r n), of_abs z, of+ (at r n) (pos (carry d r n))); divisor = h.divisor }
 
   pub sum_fits : SFits w64 (at r n +ℤ pos (carry d r n))
   sum_fits = fits_abs (record { bound = cell_dividend.size }) (omega arith)
 
   pub cell_fits : SFits w32 (carry_cell d r n)
-  cell_fits = fits_abs (record { bound = carry_size h.divisor.0 r n h.size }) (omega (arith, h.most))
+  cell_fits = fits_abs (record { bound = carry_size h.divisor.0 r n h.size }) (omega arith)
 
 -- ---- the two ends of a call
 module _ (s : Shape) (M : ℕ) (r cells : List ℤ) where

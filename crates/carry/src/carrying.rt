@@ -2,14 +2,16 @@
 ghost use Rattle.std.specs.Prelude.{◌≡◌, length};
 ghost use Rattle.meaning.specs.Smoothing.{list_of};
 ghost use Rattle.meaning.specs.Carry as meant;
-ghost use Rattle.outputs.specs.Ready.{Convertible};
+
+use outputs::Quotients;
 
 // The carry that the last cell leaves.
-pub(crate) fn carry_into(divisor: u64, results: &[i64], cells: &mut [i32]) -> u64
-    requires { Convertible divisor results.now (length cells.old) }
-    ensures value { result ≡ meant.carry divisor results.now (length results.now) }
-    ensures cells_after { cells.new ≡ list_of (length results.now) (meant.carry_cell divisor results.now) }
+pub(crate) fn carry_into(quotients: Quotients, cells: &mut [i32]) -> u64
+    requires { length cells.old ≡ length quotients.results.now }
+    ensures value { result ≡ meant.carry quotients.entry.divisor quotients.entry.results.now (length quotients.entry.results.now) }
+    ensures cells_after { cells.new ≡ list_of (length quotients.entry.results.now) (meant.carry_cell quotients.entry.divisor quotients.entry.results.now) }
 {
+    let Quotients { results, divisor } = quotients;
     let mut carry = 0;
     for (n, cell) in cells.iter_mut().enumerate() {
         let sum = results[n] + carry as i64;

@@ -19,14 +19,14 @@ pub fn carry_series(
 ) -> Result<u64, Refusal>
     ensures { Gives (meant.carry_series (stages_of plan) bound results.now cells.old) (answer_of result) (carry_of result) cells.new }
 {
-    let divisor = outputs::inner::series(plan, bound, results, cells.len())?;
-    Ok(carrying::carry_into(divisor, results, cells))
+    let quotients = outputs::inner::series(plan, bound, results, cells.len())?;
+    Ok(carrying::carry_into(quotients, cells))
 }
 
 // The same of a picture, row after row as one run, over the product of both divisors.
 pub fn carry_picture(raster: Raster, results: &[i64], cells: &mut [i32]) -> Result<u64, Refusal>
     ensures { Gives (meant.carry_picture (stages_of raster.across) (stages_of raster.down) raster.bound raster.width raster.height results.now cells.old) (answer_of result) (carry_of result) cells.new }
 {
-    let divisor = outputs::inner::picture(raster, results, cells.len())?;
-    Ok(carrying::carry_into(divisor, results, cells))
+    let quotients = outputs::inner::picture(raster, results, cells.len())?;
+    Ok(carrying::carry_into(quotients, cells))
 }

@@ -19,8 +19,8 @@ pub fn doubles_series(
 ) -> Result<(), Refusal>
     ensures { Gives (meant.doubles_series (stages_of plan) bound results.now cells.old) (answer_of result) cells.new }
 {
-    let divisor = outputs::inner::series(plan, bound, results, cells.len())?;
-    converting::doubles_into(divisor, results, cells);
+    let quotients = outputs::inner::series(plan, bound, results, cells.len())?;
+    converting::doubles_into(quotients, cells);
     Ok(())
 }
 
@@ -28,7 +28,7 @@ pub fn doubles_series(
 pub fn doubles_picture(raster: Raster, results: &[i64], cells: &mut [f64]) -> Result<(), Refusal>
     ensures { Gives (meant.doubles_picture (stages_of raster.across) (stages_of raster.down) raster.bound raster.width raster.height results.now cells.old) (answer_of result) cells.new }
 {
-    let divisor = outputs::inner::picture(raster, results, cells.len())?;
-    converting::doubles_into(divisor, results, cells);
+    let quotients = outputs::inner::picture(raster, results, cells.len())?;
+    converting::doubles_into(quotients, cells);
     Ok(())
 }

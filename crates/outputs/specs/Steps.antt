@@ -1,9 +1,9 @@
 -- The steps of an output, each over plain lists, of any shape.
 --   Over s M d   rows 1 to 8 do not apply to the shape s under the bound M, and d is its divisor
--- Laws: test_refused, test_rest (the rows in two parts, as code tests them); series_over, picture_over (what the first part leaves, of the divisor that code has), over_passed (what both leave);
+-- Laws: test_refused, test_rest (the rows in two parts, as code tests them); series_over, picture_over (what the first part leaves, of the divisor that code has), over_passed, over_size, over_small (what both leave);
 -- series_lengths; call_refused, call_done (the two ends of a call that leaves cells, with rows of its own).
-use Rattle.std.specs.Prelude.{ℕ, ◌*◌, ◌≤◌, ◌≡◌, refl, Bool, false, ◌||◌, List, [], ◌∷◌, ◌++◌, map, length, ℤ}
-use Rattle.std.proofs.Common.{sym, ◌∙◌, ap₂, mul-le-mul_right, arith}
+use Rattle.std.specs.Prelude.{ℕ, ◌*◌, ◌≤◌, ◌<◌, ◌≡◌, refl, Bool, false, ◌||◌, List, [], ◌∷◌, ◌++◌, map, length, ℤ, nat_abs}
+use Rattle.std.proofs.Common.{sym, ◌∙◌, ap₂, le_trans, mul-le-mul_right, arith}
 use Rattle.std.proofs.Math.Nat.{one-le-mul}
 use Rattle.meaning.specs.Limits.{least, max_bound, max_result}
 use Rattle.meaning.specs.Extension.{at}
@@ -14,7 +14,7 @@ use Rattle.theory.specs.Refusals.{number_zero, if_done_done, if_done_refused}
 use Rattle.theory.specs.Tests.{no_differs}
 use Rattle.theory.specs.ShapeRows.{shape_refused, shape_rest}
 use Rattle.theory.specs.Accepted.{length_accepted, sides_accepted, accepted_divisor, divisor_allowed}
-use Rattle.theory.specs.AcceptedOutputs.{output_lent}
+use Rattle.theory.specs.AcceptedOutputs.{Lent, output_lent}
 use Rattle.plan.specs.declared.Plan.{Plan}
 use Rattle.plan.specs.declared.Refusal.{Refusal}
 use Rattle.plan.specs.Structs.{stages_of, plain, refused, refused_number}
@@ -59,17 +59,22 @@ picture_over p q {M} {W} {H} ok e f =
     over (picture_of (stages_of p) (stages_of q) W H) M (ap₂ ◌*◌ (e ∙ accepted_divisor (stages_of p) h) (f ∙ accepted_divisor (stages_of q) v)) ok.bound
     (one-le-mul (divisor_allowed (stages_of p) ok.across.stages) (divisor_allowed (stages_of q) ok.down.stages)) ok.product (one-le-mul ok.width.0 ok.height.0)
 
-pub over_passed : (s : Shape) {M d : ℕ} (r : List ℤ) (n : ℕ) → Over s M d → plain 0 ≡ first_of (output_rows s M r n) → Passed s d r n
-over_passed s {M} r n o e =
-    let lent = (output_lent s M r n (number_zero e refl)).1 in
-    record {
-      divides = o.divides;
-      some = rw lent.count o.some;
-      convertible = record {
-        same = lent.cells ∙ sym lent.count;
-        each = λ i k. record { bound = M; most = o.bound.1; divisor = o.divisor; product = o.product; size = rw o.divides (lent.results i k) };
-      };
-    }
+module _ (s : Shape) {M d : ℕ} (r : List ℤ) (n : ℕ) (o : Over s M d) (e : plain 0 ≡ first_of (output_rows s M r n)) where
+  lent : Lent s M r n
+  lent = (output_lent s M r n (number_zero e refl)).1
+
+  pub over_passed : Passed s r n r d
+  over_passed = record { results = refl; divides = o.divides; some = rw lent.count o.some; cells = lent.cells ∙ sym lent.count }
+
+  module _ (i : ℕ) (l : i < length r) where
+    size : nat_abs (at r i) ≤ M * d
+    size = rw o.divides (lent.results i l)
+
+    pub over_size : nat_abs (at r i) ≤ max_bound * d
+    over_size = le_trans size (mul-le-mul_right d o.bound.1)
+
+    pub over_small : nat_abs (at r i) ≤ max_result
+    over_small = le_trans size o.product
 
 -- ---- the two ends of a call that leaves cells, with rows of its own behind those of every output
 module _ {A : Type 0} (own : List Row) (g : ℤ → ℕ → A) (s : Shape) (M : ℕ) (r : List ℤ) (cells : List A) where

@@ -6,6 +6,7 @@ ghost use Rattle.meaning.specs.Values as meant;
 ghost use Rattle.plan.specs.Structs.{stages_of, answer_of};
 ghost use Rattle.outputs.specs.Ready.{Passed};
 
+use crate::quotients::Quotients;
 use plan::{Plan, Raster, Refusal};
 
 // Row 12: the first result whose size is above the limit.
@@ -18,27 +19,32 @@ pub fn results_allowed(limit: u64, results: &[i64]) -> Result<(), Refusal>
     }
 }
 
-// The divisor, where a series may be put out. A summary has no cells, and gives the results' own length.
-pub fn series(plan: Plan, bound: u64, results: &[i64], cells: usize) -> Result<u64, Refusal>
+// The results over the divisor, where a series may be put out. A summary has no cells, and gives the results' own length.
+pub fn series(
+    plan: Plan,
+    bound: u64,
+    results: &[i64],
+    cells: usize,
+) -> Result<Quotients<'_>, Refusal>
     ensures answer { answer_of result ≡ R.first_of (meant.output_rows (R.series_of (stages_of plan) (length results.now)) bound results.now cells) }
-    ensures passed { IfOk result (λ d. Passed (R.series_of (stages_of plan) (length results.now)) d results.now cells) }
+    ensures passed { IfOk result (λ q. Passed (R.series_of (stages_of plan) (length results.now)) results.now cells q.results.now q.divisor) }
 {
     let n = results.len();
     refusals::inner::series_allowed(plan, bound, n, cells != n)?;
     let divisor = plan.divisor();
     results_allowed(bound * divisor, results)?;
-    Ok(divisor)
+    Ok(Quotients { results, divisor })
 }
 
-// The product of both divisors, where a picture may be put out. Where row 7 applies the cells asked are 0, and whether lengths differ from that does not matter.
-pub fn picture(raster: Raster, results: &[i64], cells: usize) -> Result<u64, Refusal>
+// The same of a picture, over the product of both divisors. Where row 7 applies the cells asked are 0, and whether lengths differ from that does not matter.
+pub fn picture(raster: Raster, results: &[i64], cells: usize) -> Result<Quotients<'_>, Refusal>
     ensures answer { answer_of result ≡ R.first_of (meant.output_rows (R.picture_of (stages_of raster.across) (stages_of raster.down) raster.width raster.height) raster.bound results.now cells) }
-    ensures passed { IfOk result (λ d. Passed (R.picture_of (stages_of raster.across) (stages_of raster.down) raster.width raster.height) d results.now cells) }
+    ensures passed { IfOk result (λ q. Passed (R.picture_of (stages_of raster.across) (stages_of raster.down) raster.width raster.height) results.now cells q.results.now q.divisor) }
 {
     let asked = refusals::inner::picture_cells(raster.width, raster.height).unwrap_or(0);
     let wrong_length = refusals::inner::lengths_differ(results.len(), asked, cells, asked);
     refusals::inner::picture_allowed(raster, wrong_length)?;
     let divisor = raster.across.divisor() * raster.down.divisor();
     results_allowed(raster.bound * divisor, results)?;
-    Ok(divisor)
+    Ok(Quotients { results, divisor })
 }

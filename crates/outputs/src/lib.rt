@@ -1,4 +1,7 @@
-// What the outputs of a series and of a picture share: their tests. Nothing here is a public call.
+// The tests of outputs. Nothing here is a public call.
 #![tactic(auto)]
 
 pub mod inner;
+mod quotients;
+
+pub use quotients::Quotients;

@@ -4,10 +4,10 @@ ghost use Rattle.meaning.specs.Limits.{least};
 ghost use Rattle.meaning.specs.Values as meant;
 ghost use Rattle.theory.specs.Extremes.{Beating};
 ghost use Rattle.summary.specs.Structs.{done_of, done_summary};
-ghost use Rattle.outputs.specs.Ready.{Convertible};
 ghost use Rattle.summary.specs.Extremes.{Tells};
 
 use crate::Summary;
+use outputs::Quotients;
 
 // The first index of a result that no other is ahead of.
 fn first_of<F: Fn(i64, i64) -> bool>(results: &[i64], ahead: F) -> usize
@@ -26,11 +26,11 @@ fn first_of<F: Fn(i64, i64) -> bool>(results: &[i64], ahead: F) -> usize
     best.0
 }
 
-pub(crate) fn summary(divisor: u64, results: &[i64]) -> Summary
-    requires some { least ≤ length results.now }
-    requires convertible { Convertible divisor results.now (length results.now) }
-    ensures { done_of result ≡ done_summary divisor results.now }
+pub(crate) fn summary(quotients: Quotients) -> Summary
+    requires { least ≤ length quotients.results.now }
+    ensures { done_of result ≡ done_summary quotients.entry.divisor quotients.entry.results.now }
 {
+    let Quotients { results, divisor } = quotients;
     let lowest_at = first_of(results, |x, y| x < y);
     let highest_at = first_of(results, |x, y| x > y);
     Summary {

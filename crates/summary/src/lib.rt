@@ -23,14 +23,14 @@ pub struct Summary {
 pub fn summary_series(plan: Plan, bound: u64, results: &[i64]) -> Result<Summary, Refusal>
     ensures { summary_of result ≡ meant.summary_series (stages_of plan) bound results.now }
 {
-    let divisor = outputs::inner::series(plan, bound, results, results.len())?;
-    Ok(extremes::summary(divisor, results))
+    let quotients = outputs::inner::series(plan, bound, results, results.len())?;
+    Ok(extremes::summary(quotients))
 }
 
 // The same of a picture, over the product of both divisors.
 pub fn summary_picture(raster: Raster, results: &[i64]) -> Result<Summary, Refusal>
     ensures { summary_of result ≡ meant.summary_picture (stages_of raster.across) (stages_of raster.down) raster.bound raster.width raster.height results.now }
 {
-    let divisor = outputs::inner::picture(raster, results, results.len())?;
-    Ok(extremes::summary(divisor, results))
+    let quotients = outputs::inner::picture(raster, results, results.len())?;
+    Ok(extremes::summary(quotients))
 }

@@ -5,6 +5,7 @@ use Rattle.std.proofs.Common.{arith}
 use Rattle.std.specs.Int.{w32}
 use mir.Val.{SFits, bool_byte}
 use Rattle.algebra.specs.Size.{fits_abs}
+use Rattle.meaning.specs.Limits.{max_bound}
 use Rattle.meaning.specs.Extension.{emod}
 use Rattle.meaning.specs.Values.{floor, rounded}
 use Rattle.theory.specs.Remainder.{emod_divided}
@@ -22,7 +23,7 @@ byte_most false = omega arith
 
 module _ {z : ℤ} {d : ℕ} (h : Quotient z d) where
   pub dividend : Dividend z d
-  dividend = record { size = omega (arith, h.size, h.product); divisor = h.divisor }
+  dividend = record { size = omega (arith, h.small); divisor = h.divisor }
 
   pub before_half : (mode : ℕ) → 2 * emod z d + bool_byte (goes_up mode (floor z d)) ≤ d → rounded mode z d ≡ floor z d
   before_half mode l = rounded_below (emod_divided z h.divisor.0) mode (omega (arith, byte_is (goes_up mode (floor z d))))
@@ -31,4 +32,4 @@ module _ {z : ℤ} {d : ℕ} (h : Quotient z d) where
   past_half mode l = rounded_above (emod_divided z h.divisor.0) mode (omega (arith, byte_is (goes_up mode (floor z d))))
 
   pub rounded_fits : (mode : ℕ) → SFits w32 (rounded mode z d)
-  rounded_fits mode = fits_abs (record { bound = rounded_size d h.divisor.0 z mode h.bound h.size }) (omega (arith, h.most))
+  rounded_fits mode = fits_abs (record { bound = rounded_size d h.divisor.0 z mode max_bound h.size }) (omega arith)

@@ -2,10 +2,11 @@
 ghost use Rattle.std.specs.Prelude.{◌≡◌, map, length};
 ghost use Rattle.meaning.specs.Values as meant;
 ghost use Rattle.theory.specs.Rounded.{goes_up};
-ghost use Rattle.outputs.specs.Ready.{Quotient, Convertible};
+ghost use Rattle.outputs.specs.Ready.{Quotient};
 ghost use Rattle.whole.specs.Mode.{mode_of};
 
 use crate::mode::Rounding;
+use outputs::Quotients;
 
 // Whether the half above this number goes up: to the even neighbour only where this number is odd.
 fn goes_up(rounding: Rounding, below: i64) -> bool
@@ -30,9 +31,13 @@ fn rounded(rounding: Rounding, res: i64, divisor: u64) -> i32
     (below + 1) as i32
 }
 
-pub(crate) fn whole_into(divisor: u64, rounding: Rounding, results: &[i64], cells: &mut [i32])
-    requires { Convertible divisor results.now (length cells.old) }
-    ensures { cells.new ≡ map (λ z. meant.rounded (mode_of rounding) z divisor) results.now }
+pub(crate) fn whole_into(quotients: Quotients, rounding: Rounding, cells: &mut [i32])
+    requires { length cells.old ≡ length quotients.results.now }
+    ensures { cells.new ≡ map (λ z. meant.rounded (mode_of rounding) z quotients.entry.divisor) quotients.entry.results.now }
 {
-    cells::inner::map_into(results, cells, |res| rounded(rounding, res, divisor));
+    cells::inner::map_into(
+        quotients.results,
+        cells,
+        |res| rounded(rounding, res, quotients.divisor),
+    );
 }

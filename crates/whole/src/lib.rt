@@ -27,9 +27,9 @@ pub fn whole_series_by(
 ) -> Result<(), Refusal>
     ensures { Gives (meant.whole_series_by (stages_of plan) bound mode results.now cells.old) (answer_of result) cells.new }
 {
-    let divisor = outputs::inner::series(plan, bound, results, cells.len())?;
+    let quotients = outputs::inner::series(plan, bound, results, cells.len())?;
     let rounding = Rounding::try_from(mode)?;
-    converting::whole_into(divisor, rounding, results, cells);
+    converting::whole_into(quotients, rounding, cells);
     Ok(())
 }
 
@@ -54,9 +54,9 @@ pub fn whole_picture_by(
 ) -> Result<(), Refusal>
     ensures { Gives (meant.whole_picture_by (stages_of raster.across) (stages_of raster.down) raster.bound raster.width raster.height mode results.now cells.old) (answer_of result) cells.new }
 {
-    let divisor = outputs::inner::picture(raster, results, cells.len())?;
+    let quotients = outputs::inner::picture(raster, results, cells.len())?;
     let rounding = Rounding::try_from(mode)?;
-    converting::whole_into(divisor, rounding, results, cells);
+    converting::whole_into(quotients, rounding, cells);
     Ok(())
 }
 

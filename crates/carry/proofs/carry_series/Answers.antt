@@ -3,8 +3,10 @@ use Rattle.std.proofs.lemmas.Result.{err_from_is_err_and}
 use Rattle.carry.specs.Steps.{carry_refused, carry_done}
 use Rattle.carry.proofs.carry_series.Goals as goal
 
-pub returns-in_err-divisor : goal.returns-in_err-divisor
-returns-in_err-divisor c = let p = err_from_is_err_and c.from_residual.result c.from_residual.ensures.1 in rw (p.1, p.2) (carry_refused _ _ _ _ _ c.in_err-divisor.ensures.answer)
+pub returns-in_err-quotients : goal.returns-in_err-quotients
+returns-in_err-quotients c = let p = err_from_is_err_and c.from_residual.result c.from_residual.ensures.1 in rw (p.1, p.2) (carry_refused _ _ _ _ _ c.in_err-quotients.ensures.answer)
 
 pub returns : goal.returns
-returns c = carry_done _ _ _ _ c.in_ok-divisor.ensures.answer c.in_ok-divisor.ensures.passed.divides c.carry_into.ensures.value c.carry_into.ensures.cells_after
+returns c =
+    let p = c.in_ok-quotients.ensures.passed in
+    carry_done _ _ _ _ c.in_ok-quotients.ensures.answer p.divides (rw p.results at c.carry_into.ensures.value) (rw p.results at c.carry_into.ensures.cells_after)

@@ -1,5 +1,5 @@
 -- Before cell n the carry is the one before it, and the first n cells are written.
-use Prim.Native.Nat.{ℕ}
+use Prim.Native.Nat.{ℕ, ◌<◌}
 use mathlib.Core.Path.{◌≡◌, refl, sym, ◌∙◌, ap, ap₂}
 use mathlib.Core.List.{List}
 use native.Mathlib.Omega.{arith}
@@ -22,15 +22,15 @@ use Rattle.carry.proofs.carrying.carry_into.Goals as goal
 use Rattle.carry.proofs.carrying.carry_into.Goals.{After-floor-below, In-loop-n}
 
 pub loop-n-init : goal.loop-n-init
-loop-n-init c = (sym (carry_none c.args.divisor c.args.results.now), refl)
+loop-n-init c = (sym (carry_none c.args.quotients.divisor c.args.quotients.results.now), refl)
 
 -- the result, its carry, and both together
 module _ (c : In-loop-n) where
   abbrev d : ℕ
-  d = c.args.divisor
+  d = c.args.quotients.divisor
 
   abbrev r : List ℤ
-  r = c.args.results.now
+  r = c.args.quotients.results.now
 
   abbrev n : ℕ
   n = c.loop-n.n
@@ -40,7 +40,7 @@ module _ (c : In-loop-n) where
   k = c.loop-n.carry
 
   ready : Quotient (at r n) d
-  ready = c.requires.each n (omega arith)
+  ready = let q = c.args.quotients in let l : n < length r = omega arith in record { divisor = (q.positive, q.most); size = q.sizes n l; small = q.small n l }
 
   carry_fits : SFits w64 (pos k)
   carry_fits = rw c.loop-n.invariant.0 (record { sfits = omega (arith, carry_below ready.divisor.0 r n, ready.divisor.1) })
@@ -95,7 +95,7 @@ loop-n-preserved c =
 pub returns : goal.returns
 returns c =
     let l = c.loop-n in
-    let a = c.args in
+    let a = c.args.quotients in
     let r = a.results.now in
     let e : l.n ≡ length r = omega arith in
     record { value = l.invariant.0 ∙ ap (carry a.divisor r) e; cells_after = fill_done (list_of (length r) (carry_cell a.divisor r)) l.cells l.n l.invariant.1 (omega arith) (rw (length_list_of (length r) (carry_cell a.divisor r)) (omega arith)) }
