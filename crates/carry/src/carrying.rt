@@ -3,7 +3,7 @@ ghost use Rattle.std.specs.Prelude.{◌≡◌, length};
 ghost use Rattle.meaning.specs.Smoothing.{list_of};
 ghost use Rattle.meaning.specs.Carry as meant;
 
-use outputs::Quotients;
+use outputs::inner::Quotients;
 
 // The carry that the last cell leaves.
 pub(crate) fn carry_into(quotients: Quotients, cells: &mut [i32]) -> u64

@@ -3,7 +3,7 @@ ghost use Rattle.std.specs.Prelude.{◌≡◌, map, length};
 ghost use Rattle.meaning.specs.Values as meant;
 
 use crate::inner;
-use outputs::Quotients;
+use outputs::inner::Quotients;
 
 pub(crate) fn doubles_into(quotients: Quotients, cells: &mut [f64])
     requires { length cells.old ≡ length quotients.results.now }

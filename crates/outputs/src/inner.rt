@@ -6,7 +6,7 @@ ghost use Rattle.meaning.specs.Values as meant;
 ghost use Rattle.plan.specs.Structs.{stages_of, answer_of};
 ghost use Rattle.outputs.specs.Ready.{Passed};
 
-use crate::quotients::Quotients;
+pub use crate::quotients::Quotients;
 use plan::{Plan, Raster, Refusal};
 
 // Row 12: the first result whose size is above the limit.

@@ -3,5 +3,3 @@
 
 pub mod inner;
 mod quotients;
-
-pub use quotients::Quotients;

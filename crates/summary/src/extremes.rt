@@ -7,7 +7,7 @@ ghost use Rattle.summary.specs.Structs.{done_of, done_summary};
 ghost use Rattle.summary.specs.Extremes.{Tells};
 
 use crate::Summary;
-use outputs::Quotients;
+use outputs::inner::Quotients;
 
 // The first index of a result that no other is ahead of.
 fn first_of<F: Fn(i64, i64) -> bool>(results: &[i64], ahead: F) -> usize

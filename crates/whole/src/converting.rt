@@ -6,7 +6,7 @@ ghost use Rattle.outputs.specs.Ready.{Quotient};
 ghost use Rattle.whole.specs.Mode.{mode_of};
 
 use crate::mode::Rounding;
-use outputs::Quotients;
+use outputs::inner::Quotients;
 
 // Whether the half above this number goes up: to the even neighbour only where this number is odd.
 fn goes_up(rounding: Rounding, below: i64) -> bool
