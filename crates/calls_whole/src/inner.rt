@@ -72,7 +72,7 @@ pub fn carry_picture<R: Read, W: Write>(stream: &mut Stream<R, W>) -> Result<(),
     })
 }
 
-// The same, with what is carried out of the last cell.
+// The same, with what is carried out of the last cell. A closure to print that one word too is no plainer.
 fn carried<R, W, F>(stream: &mut Stream<R, W>, call: F) -> Result<(), Ended>
 where
     R: Read,

@@ -46,7 +46,7 @@ impl From<io::Error> for Ended {
     }
 }
 
-// Doubles, and the words that they were read from: a NaN's own bits cannot be read from it.
+// Doubles, and the words that they were read from: a NaN's own bits cannot be read from it. Two vectors, for calls take a slice of doubles.
 #[derive(Drop)]
 pub struct Doubles {
     pub values: Vec<f64>,
