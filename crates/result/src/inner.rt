@@ -9,8 +9,7 @@ ghost use Rattle.result.specs.Shares.{share_in, Summable, Pointable};
 
 use plan::Plan;
 use refusals::inner::{Span, within_reach};
-use taps::inner::weight;
-use taps::inner::with_taps;
+use taps::inner::{weight, with_taps};
 
 // The result at n of samples that are not refused.
 pub fn result(plan: Plan, samples: &[i32], n: usize) -> i64
