@@ -9,15 +9,14 @@ ghost use Rattle.result.specs.Shares.{share_in, Summable, Pointable};
 
 use plan::Plan;
 use refusals::inner::{Span, within_reach};
-use taps::inner::weight;
-use taps::inner::with_taps;
+use taps::inner::{weight, with_taps};
 
-// The result at n of samples that are not refused.
+// The result at n of samples that are not refused. It writes nothing, so no cells go with the taps.
 pub fn result(plan: Plan, samples: &[i32], n: usize) -> i64
     requires { Pointable (stages_of plan) n samples.now }
     ensures { result ≡ S.result fold (stages_of plan) samples.now (pos n) }
 {
-    with_taps(plan, |taps| by_taps(plan, taps, samples, n))
+    with_taps(plan, &mut [], |taps, _| by_taps(plan, taps, samples, n))
 }
 
 // The same, by the plan's taps.

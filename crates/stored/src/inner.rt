@@ -8,7 +8,7 @@ ghost use Rattle.stored.specs.Changes.{Changes, Editable};
 use gains::inner::Edit;
 use plan::inner::scaled;
 use plan::{Plan, Refusal};
-use taps::inner::{MOST_TAPS, tap_count, taps_into};
+use taps::inner::with_taps;
 
 // The results of an edit that is so far not refused, and how many change.
 pub fn edit_results(
@@ -21,13 +21,9 @@ pub fn edit_results(
     requires { Editable (stages_of plan) bound p change results.old }
     ensures { Changes (stages_of plan) (bound * divisor (stages_of plan)) p change results.old (answer_of result) (value_or 0 result) results.new }
 {
-    // not `with_taps`: tried, and of what a closure writes through a slice that it borrows the proof knows the length only
-    let count = tap_count(plan);
-    let mut taps = [0i64; MOST_TAPS];
-    let mut other = [0i64; MOST_TAPS];
-    let front = &mut taps[0..count];
-    taps_into(plan, front, &mut other[0..count]);
-    by_taps(plan, front, bound, p, change, results)
+    with_taps(plan, results, |taps, results| {
+        by_taps(plan, taps, bound, p, change, results)
+    })
 }
 
 // The same, by these taps.

@@ -1,6 +1,6 @@
-// The taps of a plan in arrays of their own, lent to a call: nothing that it needs of them is written to a slice of its caller.
-ghost use Rattle.std.specs.Prelude.{ℤ, List};
-ghost use Rattle.std.specs.Fn.{FnOnceReturnsAt, FnOnceTakesAt};
+// The taps of a plan, in arrays of their own: room for them is asked of no caller.
+ghost use Rattle.std.specs.Prelude.{ℤ, ◌≡◌, List};
+ghost use Rattle.std.proofs.Common.{Bor, MutBor};
 ghost use Rattle.meaning.specs.Bounds.{AcceptedPlan};
 ghost use Rattle.plan.specs.Structs.{stages_of};
 ghost use Rattle.taps.specs.Lent.{Whole};
@@ -8,16 +8,16 @@ ghost use Rattle.taps.specs.Lent.{Whole};
 use crate::inner::{MOST_TAPS, tap_count, taps_into};
 use plan::Plan;
 
-// What f makes of the taps: of all, and of no cell behind them.
-pub fn with_taps<A, F: FnOnce(&[i64]) -> A>(plan: Plan, f: F) -> A
+// What f makes of all the taps, and no cell behind them. It may write the cells that go with them.
+pub fn with_taps<A, F: FnOnce(&[i64], &mut [i64]) -> A>(plan: Plan, cells: &mut [i64], f: F) -> A
     requires accepted { AcceptedPlan (stages_of plan) }
-    requires callable { (taps : List ℤ) → Whole (stages_of plan) taps → FnOnceTakesAt F.FnOnce f taps }
-    ensures { (taps : List ℤ) × Whole (stages_of plan) taps × FnOnceReturnsAt F.FnOnce f taps result }
+    requires callable { (t : Bor (List ℤ)) (c : MutBor (List ℤ)) → Whole (stages_of plan) t.now → c.now ≡ cells.old → F.pre f t c }
+    ensures { (t : Bor (List ℤ)) × (c : MutBor (List ℤ)) × (left : MutBor (List ℤ)) × Whole (stages_of plan) t.now × (c.now ≡ cells.old) × F.post f t c result left × (left.now ≡ cells.new) }
 {
     let count = tap_count(plan);
     let mut taps = [0i64; MOST_TAPS];
     let mut other = [0i64; MOST_TAPS];
     let front = &mut taps[0..count];
     taps_into(plan, front, &mut other[0..count]);
-    f(front)
+    f(front, cells)
 }
