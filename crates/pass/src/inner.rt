@@ -20,7 +20,7 @@ pub fn cell(inner: i64, edge: i64, w: i64, lo: i64, hi: i64) -> i64
     inner * w + edge * (lo + hi)
 }
 
-// The same by the weights of a plan.
+// The same by the weights of a plan that is allowed; taps have weights and no such plan.
 pub(crate) fn weigh(plan: Plan, w: i64, lo: i64, hi: i64) -> i64
     requires tested { Tested plan }
     requires fits { CellFits (pos plan.inner) (pos plan.edge) w lo hi }

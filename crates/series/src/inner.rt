@@ -10,7 +10,7 @@ pub fn load(samples: &[i32], dst: &mut [i64])
     requires { length dst.old ≡ length samples.now }
     ensures { dst.new ≡ samples.now }
 {
-    cells::inner::map_into(samples, dst, |x| x as i64);
+    cells::inner::map_into(samples, dst, i64::from);
 }
 
 // k passes of the samples into dst. The pass before stands in the other slice, so none reads a cell that it has written.

@@ -17,6 +17,7 @@ fn first_of<F: Fn(i64, i64) -> bool>(results: &[i64], ahead: F) -> usize
     ensures first { (beats : _) → Beating beats → Tells beats (F.post ahead) → result ≡ meant.unbeaten beats results.now }
 {
     let mut best = (0, results[0]);
+    // of two that are as far ahead `min_by` does not say which it takes
     for i in 1..results.len() {
         let next = results[i];
         if ahead(next, best.1) {

@@ -17,7 +17,7 @@ pub const EVEN: u64 = 0;
 // The mode in which it goes upward, for columns that are stored so.
 pub const UPWARD: u64 = 1;
 
-// Each result over the divisor, to the nearest whole number, a half going by the mode. A refused call changes no cell.
+// Each result over the divisor, to the nearest whole number, a half going by the mode: any number, as another mode than these two is refused. A refused call changes no cell.
 pub fn whole_series_by(
     plan: Plan,
     bound: u64,
