@@ -19,9 +19,8 @@ pub fn number<T: Copy>(ended: Result<T, Refusal>) -> u32
 
 // Of a call that tests no samples.
 pub fn told<T: Copy>(ended: Result<T, Refusal>, place: &mut u32) -> u32
-    requires narrow { Narrow (answer_of ended) }
-    requires none_bad { (answer_of ended).bad ≡ 0 }
-    ensures { said result place.new 0 ≡ answer_of ended }
+    requires { Narrow (answer_of ended) }
+    ensures { (answer_of ended).bad ≡ 0 → said result place.new 0 ≡ answer_of ended }
 {
     let mut none = 0;
     checked(ended, place, &mut none)

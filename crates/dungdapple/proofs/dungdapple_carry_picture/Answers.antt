@@ -6,6 +6,7 @@ use Rattle.theory.specs.Narrow.{picture_cells_lem, narrow_carried}
 use Rattle.plan.specs.Structs.{stages_of}
 use Rattle.dungdapple.specs.Held.{carry_picture_held}
 use Rattle.answers.specs.Untested.{carried_untested}
+use borrow.Author.Rules.{rules}
 use Rattle.dungdapple.specs.Same.{narrow_as}
 use Rattle.dungdapple.proofs.dungdapple_carry_picture.Goals as goal
 
@@ -22,7 +23,15 @@ told-requires c =
     let W = c.raster-raster.result.width in
     let H = c.raster-raster.result.height in
     let e = c.carry_picture-run.ensures.answer in
-    record {
-      narrow = narrow_as e (narrow_carried (picture_of hs vs W H) (picture_cells_lem hs vs W H) c.raster-raster.result.bound a.results.now a.cells.now);
-      none_bad = ap (λ (x : Answer). x.bad) e ∙ carried_untested (picture_of hs vs W H) c.raster-raster.result.bound a.results.now a.cells.now;
-    }
+    narrow_as e (narrow_carried (picture_of hs vs W H) (picture_cells_lem hs vs W H) c.raster-raster.result.bound a.results.now a.cells.now)
+
+pub returns : goal.returns
+returns c =
+    let a = c.args in
+    let hs = stages_of c.raster-raster.result.across in
+    let vs = stages_of c.raster-raster.result.down in
+    let W = c.raster-raster.result.width in
+    let H = c.raster-raster.result.height in
+    let e = c.carry_picture-run.ensures.answer in
+    let told = c.told.ensures (ap (λ (x : Answer). x.bad) e ∙ carried_untested (picture_of hs vs W H) c.raster-raster.result.bound a.results.now a.cells.now) in
+    search rules

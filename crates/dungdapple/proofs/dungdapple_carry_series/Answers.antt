@@ -7,6 +7,7 @@ use Rattle.theory.specs.Narrow.{series_cells, narrow_carried}
 use Rattle.plan.specs.Structs.{stages_of}
 use Rattle.dungdapple.specs.Held.{carry_series_held}
 use Rattle.answers.specs.Untested.{carried_untested}
+use borrow.Author.Rules.{rules}
 use Rattle.dungdapple.specs.Same.{narrow_as}
 use Rattle.dungdapple.proofs.dungdapple_carry_series.Goals as goal
 
@@ -20,7 +21,12 @@ told-requires c =
     let a = c.args in
     let ss = stages_of c.plan-numbers.result in
     let e = c.carry_series-carried.ensures.answer in
-    record {
-      narrow = narrow_as e (narrow_carried (series_of ss (length a.results.now)) (series_cells ss (length a.results.now)) c.count-most.result a.results.now a.cells.now);
-      none_bad = ap (λ (x : Answer). x.bad) e ∙ carried_untested (series_of ss (length a.results.now)) c.count-most.result a.results.now a.cells.now;
-    }
+    narrow_as e (narrow_carried (series_of ss (length a.results.now)) (series_cells ss (length a.results.now)) c.count-most.result a.results.now a.cells.now)
+
+pub returns : goal.returns
+returns c =
+    let a = c.args in
+    let ss = stages_of c.plan-numbers.result in
+    let e = c.carry_series-carried.ensures.answer in
+    let told = c.told.ensures (ap (λ (x : Answer). x.bad) e ∙ carried_untested (series_of ss (length a.results.now)) c.count-most.result a.results.now a.cells.now) in
+    search rules

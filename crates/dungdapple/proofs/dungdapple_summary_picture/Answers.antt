@@ -42,15 +42,16 @@ told-requires c =
     let W = c.raster-raster.result.width in
     let H = c.raster-raster.result.height in
     let e = ap (λ (o : Summary). o.answer) (summary_found c.summary_picture-summed.result ∙ c.summary_picture-summed.ensures) in
-    record {
-      narrow = narrow_as e (narrow_summary (picture_of hs vs W H) (picture_cells_lem hs vs W H) c.raster-raster.result.bound a.results.now);
-      none_bad = ap (λ (x : Answer). x.bad) e ∙ summary_untested (picture_of hs vs W H) c.raster-raster.result.bound a.results.now;
-    }
+    narrow_as e (narrow_summary (picture_of hs vs W H) (picture_cells_lem hs vs W H) c.raster-raster.result.bound a.results.now)
 
 pub returns : goal.returns
 unfolding of_bits
 returns c =
     let a = c.args in
+    let hs = stages_of c.raster-raster.result.across in
+    let vs = stages_of c.raster-raster.result.down in
+    let W = c.raster-raster.result.width in
+    let H = c.raster-raster.result.height in
     let r = c.raster-raster.ensures in
     let e = summary_found c.summary_picture-summed.result ∙ c.summary_picture-summed.ensures in
-    rw c.unwrap_or-found.ensures (summary_as (same₅ (λ hs vs M W H. summary_picture hs vs M W H a.results.now) (stages_taken r.across) (stages_taken r.down) r.bound r.width r.height) c.told.ensures e)
+    rw c.unwrap_or-found.ensures (summary_as (same₅ (λ hs vs M W H. summary_picture hs vs M W H a.results.now) (stages_taken r.across) (stages_taken r.down) r.bound r.width r.height) (c.told.ensures (ap (λ (o : Summary). o.answer.bad) e ∙ summary_untested (picture_of hs vs W H) c.raster-raster.result.bound a.results.now)) e)

@@ -34,14 +34,12 @@ told-requires c =
     let a = c.args in
     let ss = stages_of c.plan-numbers.result in
     let e = ap (λ (o : Summary). o.answer) (summary_found c.summary_series-summed.result ∙ c.summary_series-summed.ensures) in
-    record {
-      narrow = narrow_as e (narrow_summary (series_of ss (length a.results.now)) (series_cells ss (length a.results.now)) c.count-most.result a.results.now);
-      none_bad = ap (λ (x : Answer). x.bad) e ∙ summary_untested (series_of ss (length a.results.now)) c.count-most.result a.results.now;
-    }
+    narrow_as e (narrow_summary (series_of ss (length a.results.now)) (series_cells ss (length a.results.now)) c.count-most.result a.results.now)
 
 pub returns : goal.returns
 unfolding of_bits
 returns c =
     let a = c.args in
+    let ss = stages_of c.plan-numbers.result in
     let e = summary_found c.summary_series-summed.result ∙ c.summary_series-summed.ensures in
-    rw c.unwrap_or-found.ensures (summary_as (same₂ (λ ss M. summary_series ss M a.results.now) (stages_taken c.plan-numbers.ensures) c.count-most.ensures) c.told.ensures e)
+    rw c.unwrap_or-found.ensures (summary_as (same₂ (λ ss M. summary_series ss M a.results.now) (stages_taken c.plan-numbers.ensures) c.count-most.ensures) (c.told.ensures (ap (λ (o : Summary). o.answer.bad) e ∙ summary_untested (series_of ss (length a.results.now)) c.count-most.result a.results.now)) e)

@@ -7,6 +7,7 @@ use Rattle.meaning.specs.Refusals.{picture_of}
 use Rattle.theory.specs.Narrow.{picture_cells_lem, narrow_mode}
 use Rattle.plan.specs.Structs.{stages_of}
 use Rattle.answers.specs.Untested.{converted_untested, mode_untested}
+use borrow.Author.Rules.{rules}
 use Rattle.dungdapple.specs.Same.{narrow_as}
 use Rattle.dungdapple.proofs.dungdapple_whole_picture.Goals as goal
 
@@ -19,7 +20,16 @@ told-requires c =
     let H = c.raster-raster.result.height in
     let mode = c.count-half.result in
     let e = c.whole_picture_by-answer.ensures.answer in
-    record {
-      narrow = narrow_as e (narrow_mode (picture_of hs vs W H) (picture_cells_lem hs vs W H) c.raster-raster.result.bound a.results.now a.cells.now mode (rounded mode));
-      none_bad = ap (λ (x : Answer). x.bad) e ∙ converted_untested (rounded mode) (picture_of hs vs W H) c.raster-raster.result.bound a.results.now a.cells.now (mode_rows mode) (mode_untested mode);
-    }
+    narrow_as e (narrow_mode (picture_of hs vs W H) (picture_cells_lem hs vs W H) c.raster-raster.result.bound a.results.now a.cells.now mode (rounded mode))
+
+pub returns : goal.returns
+returns c =
+    let a = c.args in
+    let hs = stages_of c.raster-raster.result.across in
+    let vs = stages_of c.raster-raster.result.down in
+    let W = c.raster-raster.result.width in
+    let H = c.raster-raster.result.height in
+    let mode = c.count-half.result in
+    let e = c.whole_picture_by-answer.ensures.answer in
+    let told = c.told.ensures (ap (λ (x : Answer). x.bad) e ∙ converted_untested (rounded mode) (picture_of hs vs W H) c.raster-raster.result.bound a.results.now a.cells.now (mode_rows mode) (mode_untested mode)) in
+    search rules

@@ -8,6 +8,7 @@ use Rattle.meaning.specs.Refusals.{series_of}
 use Rattle.theory.specs.Narrow.{series_cells, narrow_mode}
 use Rattle.plan.specs.Structs.{stages_of}
 use Rattle.answers.specs.Untested.{converted_untested, mode_untested}
+use borrow.Author.Rules.{rules}
 use Rattle.dungdapple.specs.Same.{narrow_as}
 use Rattle.dungdapple.proofs.dungdapple_whole_series.Goals as goal
 
@@ -17,7 +18,13 @@ told-requires c =
     let ss = stages_of c.plan-numbers.result in
     let mode = c.count-half.result in
     let e = c.whole_series_by-answer.ensures.answer in
-    record {
-      narrow = narrow_as e (narrow_mode (series_of ss (length a.results.now)) (series_cells ss (length a.results.now)) c.count-most.result a.results.now a.cells.now mode (rounded mode));
-      none_bad = ap (λ (x : Answer). x.bad) e ∙ converted_untested (rounded mode) (series_of ss (length a.results.now)) c.count-most.result a.results.now a.cells.now (mode_rows mode) (mode_untested mode);
-    }
+    narrow_as e (narrow_mode (series_of ss (length a.results.now)) (series_cells ss (length a.results.now)) c.count-most.result a.results.now a.cells.now mode (rounded mode))
+
+pub returns : goal.returns
+returns c =
+    let a = c.args in
+    let ss = stages_of c.plan-numbers.result in
+    let mode = c.count-half.result in
+    let e = c.whole_series_by-answer.ensures.answer in
+    let told = c.told.ensures (ap (λ (x : Answer). x.bad) e ∙ converted_untested (rounded mode) (series_of ss (length a.results.now)) c.count-most.result a.results.now a.cells.now (mode_rows mode) (mode_untested mode)) in
+    search rules
