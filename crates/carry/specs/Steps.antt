@@ -16,10 +16,10 @@ use Rattle.theory.specs.Carry.{carry_below, carry_size}
 use Rattle.plan.specs.declared.Refusal.{Refusal}
 use Rattle.plan.specs.Structs.{plain, refused, refused_number}
 use Rattle.quotient.specs.Ready.{Dividend}
-use Rattle.outputs.specs.Ready.{Quotient}
+use Rattle.outputs.specs.Ready.{PutOut}
 use Rattle.carry.specs.Contract.{Gives}
 
-module _ {d : ℕ} (r : List ℤ) (n : ℕ) (h : Quotient (at r n) d) where
+module _ {d : ℕ} (r : List ℤ) (n : ℕ) (h : PutOut (at r n) d) where
   pub cell_dividend : Dividend (at r n +ℤ pos (carry d r n)) d
   cell_dividend =
       let z = at r n +ℤ pos (carry d r n) in

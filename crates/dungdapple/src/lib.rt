@@ -30,7 +30,7 @@ use planner::Planned;
 use record::{Fields, Job};
 use summary::Summary;
 
-// What is told where a call gives no struct.
+// What a refused call tells in place of each. No `Default`: these zeros are promised, and stand here to be read.
 const NO_PLAN: Planned = Planned { radius: 0, edge: 0 };
 
 const NO_SUMMARY: Summary = Summary {

@@ -36,7 +36,7 @@ pub fn series(
     Ok(Quotients { results, divisor })
 }
 
-// The same of a picture, over the product of both divisors. Where row 7 applies the cells asked are 0, and whether lengths differ from that does not matter.
+// The same of a picture, over the product of both divisors. All that it shares with a series is in `Quotients`, here and in each output: a trait over both shapes would take more lines than it saves. Where row 7 applies the cells asked are 0, and whether lengths differ from that does not matter.
 pub fn picture(raster: Raster, results: &[i64], cells: usize) -> Result<Quotients<'_>, Refusal>
     ensures answer { answer_of result ≡ R.first_of (meant.output_rows (R.picture_of (stages_of raster.across) (stages_of raster.down) raster.width raster.height) raster.bound results.now cells) }
     ensures passed { IfOk result (λ q. Passed (R.picture_of (stages_of raster.across) (stages_of raster.down) raster.width raster.height) results.now cells q.results.now q.divisor) }

@@ -53,7 +53,8 @@ pub fn allowed(plan: Plan) -> Result<(), Refusal>
     row(plan.inner <= plan.edge, Refusal::EdgeWeight)
 }
 
-// ---- of a plan that is allowed. That is a clause and no type: what a pass asks of a plan stands in one word with what it asks of slices.
+// ---- of a plan that is allowed
+// A clause and no type: a test asks it in the line after the one that finds it, and all others hold it within a larger fact, `Passable` or `Editable`, from which a type would have to be made anew.
 
 // The sum of one pass's taps.
 fn tap_sum(plan: Plan) -> u64
@@ -77,13 +78,9 @@ pub(crate) fn tap_reach(plan: Plan) -> u64
 
 // x times d, or one above the largest result where that is larger.
 fn capped_times(x: u64, d: u64) -> u64
-    requires { 1 ≤ d }
     ensures { result ≡ capped (x * d) }
 {
-    if Plan::MAX_RESULT / d < x {
-        return Plan::MAX_RESULT + 1;
-    }
-    x * d
+    x.saturating_mul(d).min(Plan::MAX_RESULT + 1)
 }
 
 // x times the divisor of an allowed plan, or above the largest result where that is.
@@ -94,6 +91,7 @@ pub fn scaled(x: u64, plan: Plan) -> u64
     let d = tap_sum(plan);
     let passes = plan.passes;
     let mut product = x;
+    // the proof goes by k
     for k in 0..passes {
         product = capped_times(product, d);
     }

@@ -17,7 +17,7 @@ pub struct Plan {
 }
 
 // A picture: rows are smoothed by the plan across, columns by the plan down.
-// A series' plan and bound have no struct: a pass goes by the plan alone, samples go by the bound.
+// A series' plan and bound have no struct: each call would only take it apart again, as a pass goes by the plan alone.
 #[derive(Clone, Copy)]
 pub struct Raster {
     pub across: Plan,
@@ -130,7 +130,7 @@ impl Plan {
         }
     }
 
-    // The sum of the K-fold kernel, D^K. Of a plan that is not accepted under any bound, 0.
+    // The sum of the K-fold kernel, D^K. Of a plan that is not accepted under any bound, 0: no `Option`, as hosts are told this number.
     pub fn divisor(self) -> u64
         ensures { result ≡ plan_divisor (stages_of self) }
     {

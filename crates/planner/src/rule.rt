@@ -11,7 +11,7 @@ pub(crate) fn radius(sigma: u64, passes: u64) -> u64
     let most = 3 * sigma * sigma;
     let q = 10000 * passes;
     let mut r: u64 = 0;
-    // how far it counts is what it finds
+    // a `while`: where it stops is the answer
     while (r + 1) * (r + 2) * q <= most {
         r += 1;
     }

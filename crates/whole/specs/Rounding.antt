@@ -11,7 +11,7 @@ use Rattle.meaning.specs.Values.{floor, rounded}
 use Rattle.theory.specs.Remainder.{emod_divided}
 use Rattle.theory.specs.Rounded.{goes_up, rounded_below, rounded_above, rounded_size}
 use Rattle.quotient.specs.Ready.{Dividend}
-use Rattle.outputs.specs.Ready.{Quotient}
+use Rattle.outputs.specs.Ready.{PutOut}
 
 byte_is : (b : Bool) → bool_byte b ≡ cond b 1 0
 byte_is true = refl
@@ -21,7 +21,7 @@ pub byte_most : (b : Bool) → bool_byte b ≤ 1
 byte_most true = omega arith
 byte_most false = omega arith
 
-module _ {z : ℤ} {d : ℕ} (h : Quotient z d) where
+module _ {z : ℤ} {d : ℕ} (h : PutOut z d) where
   pub dividend : Dividend z d
   dividend = record { size = omega (arith, h.small); divisor = h.divisor }
 

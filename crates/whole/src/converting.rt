@@ -2,7 +2,7 @@
 ghost use Rattle.std.specs.Prelude.{◌≡◌, map, length};
 ghost use Rattle.meaning.specs.Values as meant;
 ghost use Rattle.theory.specs.Rounded.{goes_up};
-ghost use Rattle.outputs.specs.Ready.{Quotient};
+ghost use Rattle.outputs.specs.Ready.{PutOut};
 ghost use Rattle.whole.specs.Mode.{mode_of};
 
 use crate::mode::Rounding;
@@ -20,7 +20,7 @@ fn goes_up(rounding: Rounding, below: i64) -> bool
 
 // The nearest whole number: the one below, or past the half the one above. A half that goes up is past it.
 fn rounded(rounding: Rounding, res: i64, divisor: u64) -> i32
-    requires { Quotient res divisor }
+    requires { PutOut res divisor }
     ensures { result ≡ meant.rounded (mode_of rounding) res divisor }
 {
     let below = quotient::inner::floor(res, divisor);

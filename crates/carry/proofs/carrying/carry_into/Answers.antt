@@ -16,7 +16,7 @@ use Rattle.meaning.specs.Values.{floor}
 use Rattle.theory.specs.Lists.{length_list_of, at_list_of}
 use Rattle.theory.specs.Fill.{fill_next, fill_done}
 use Rattle.theory.specs.Carry.{carry_cell_lem, carry_none, carry_next, carry_below}
-use Rattle.outputs.specs.Ready.{Quotient}
+use Rattle.outputs.specs.Ready.{PutOut}
 use Rattle.carry.specs.Steps.{cell_dividend, sum_fits, cell_fits}
 use Rattle.carry.proofs.carrying.carry_into.Goals as goal
 use Rattle.carry.proofs.carrying.carry_into.Goals.{After-floor-below, In-loop-n}
@@ -39,7 +39,7 @@ module _ (c : In-loop-n) where
   abbrev k : ℕ
   k = c.loop-n.carry
 
-  ready : Quotient (at r n) d
+  ready : PutOut (at r n) d
   ready = let q = c.args.quotients in let l : n < length r = omega arith in record { divisor = (q.positive, q.most); size = q.sizes n l; small = q.small n l }
 
   carry_fits : SFits w64 (pos k)
