@@ -17,7 +17,7 @@ pub struct Plan {
 }
 
 // A picture: rows are smoothed by the plan across, columns by the plan down.
-// A series' plan and bound have no struct: each call would only take it apart again, as a pass goes by the plan alone.
+// A series' plan, bound and position have no struct, nor have the slices that a call is lent: each call would only take it apart again.
 #[derive(Clone, Copy)]
 pub struct Raster {
     pub across: Plan,

@@ -1,7 +1,7 @@
 // A slice that is lent, written from its front.
 ghost use Rattle.std.specs.Prelude.{◌≤◌, length};
 
-// `at` is the place behind what is written.
+// `at` is the place behind what is written. Room is asked by each step and held by no field: each writes another number of bytes.
 #[derive(Drop)]
 pub struct Cursor<'a> {
     out: &'a mut [u8],
