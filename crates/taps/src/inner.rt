@@ -80,6 +80,7 @@ fn no_stages(dst: &mut [i64])
 }
 
 // The taps of k stages into dst. Those of one stage less stand in the other slice.
+// A recursion over two slices that are no struct: the reason stands at `smooth_into` of `series`.
 fn stages_into(plan: Plan, k: u64, dst: &mut [i64], other: &mut [i64])
     requires { (k ≤ plan.passes) × Ready plan (length dst.old) (length other.old) }
     ensures { dst.new ≡ taps_of (length dst.old) (replicate k (stage_of plan)) }
