@@ -13,6 +13,7 @@ pub(crate) fn carry_into(quotients: Quotients, cells: &mut [i32]) -> u64
 {
     let Quotients { results, divisor } = quotients;
     let mut carry = 0;
+    // no zip: see `map_into` of `cells`
     for (n, cell) in cells.iter_mut().enumerate() {
         let sum = results[n] + carry as i64;
         let below = quotient::inner::floor(sum, divisor);

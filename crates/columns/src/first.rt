@@ -25,6 +25,7 @@ fn add_row(weight: i64, src: &[i64], start: usize, row: &mut [i64])
     requires { Addable weight src.now start row.old }
     ensures { row.new ≡ list_of (length row.old) (added weight src.now start row.old) }
 {
+    // no zip: see `map_into` of `cells`
     for (x, cell) in row.iter_mut().enumerate() {
         *cell += weight * src[start + x];
     }

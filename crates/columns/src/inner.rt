@@ -46,15 +46,15 @@ fn next_row(plan: Plan, sides: Sides, y: usize, rows: Starts, src: &[i64], dst: 
     }
 }
 
-// No struct holds plan, sides and source with the fact `Passable`: a ghost field has one proof at most, and this fact has a bound that its maker chooses.
 // One pass of src into dst, every cell of it. Two rows walk the extension: low, before the window, and enters, after it.
+// `Passable` is a clause: it speaks of source, plan, sides and room together, and its largest size is its prover's choice, so no field of one argument can hold it.
 pub fn pass(plan: Plan, sides: Sides, src: &[i64], dst: &mut [i64])
     requires { Passable plan sides.width sides.height src.now (length dst.old) }
     ensures { dst.new ≡ passed plan sides.width sides.height src.now }
 {
     let height = sides.height;
     let radius = periods_before(plan.radius as usize, height);
-    first_row(plan, radius, sides, src, &mut dst[0..sides.width]);
+    first_row(plan, radius, sides, src, &mut dst[..sides.width]);
     let mut low = 2 * height - 1 - radius.rest;
     let mut enters = next(radius.rest, height);
     for y in 0..height - 1 {

@@ -57,6 +57,7 @@ pub fn reflect(place: usize, len: usize) -> usize
 }
 
 // ---- what is read: samples where any are lent, else cells
+// No enum: `source_len` and `source_at` are public functions, and a caller gives them two slices.
 
 // How many that are.
 #[tactic(auto, using(crate::specs::Source::source_samples, crate::specs::Source::source_cells))]

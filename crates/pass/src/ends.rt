@@ -32,6 +32,7 @@ pub(crate) fn walk(plan: Plan, src: &[i64], window: Window, end: usize, dst: &mu
         mut high,
     } = window;
     let mut lo = read(src, low);
+    // by index: `Reached` counts the cells of dst from its first, and a slice from `at` on would count them anew
     for n in at..end {
         low = next(low, src.len());
         let first = read(src, low);

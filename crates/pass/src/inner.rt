@@ -13,20 +13,14 @@ use extension::inner::{next, periods_before};
 use plan::Plan;
 
 // A window and the cells beside it, weighed.
-pub fn cell(inner: i64, edge: i64, w: i64, lo: i64, hi: i64) -> i64
-    requires { CellFits inner edge w lo hi }
-    ensures { result ≡ inner *ℤ w +ℤ edge *ℤ (lo +ℤ hi) }
-{
-    inner * w + edge * (lo + hi)
-}
-
-// The same by the weights of a plan that is allowed; taps have weights and no such plan.
-pub(crate) fn weigh(plan: Plan, w: i64, lo: i64, hi: i64) -> i64
+pub fn weigh(plan: Plan, w: i64, lo: i64, hi: i64) -> i64
     requires tested { Tested plan }
     requires fits { CellFits (pos plan.inner) (pos plan.edge) w lo hi }
     ensures { result ≡ pos plan.inner *ℤ w +ℤ pos plan.edge *ℤ (lo +ℤ hi) }
 {
-    cell(plan.inner as i64, plan.edge as i64, w, lo, hi)
+    let inner = plan.inner as i64;
+    let edge = plan.edge as i64;
+    inner * w + edge * (lo + hi)
 }
 
 // The window one cell on: hi enters, first leaves.
@@ -37,8 +31,8 @@ pub fn slide(w: i64, hi: i64, first: i64) -> i64
     w + hi - first
 }
 
-// No struct holds plan and source with the fact `Passable`: a ghost field has one proof at most, and this fact has a bound that its maker chooses.
 // One pass of src into dst, every cell of it. What stands at -1 - j stands as far from the period's end as j does from its start.
+// `Passable` is a clause: it speaks of source, plan and room together, and its largest size is its prover's choice, so no field of one argument can hold it.
 #[tactic(auto, using(crate::specs::Course::reached_done))]
 pub fn pass(plan: Plan, src: &[i64], dst: &mut [i64])
     requires { Passable plan src.now (length dst.old) }

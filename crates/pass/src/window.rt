@@ -9,6 +9,8 @@ ghost use Rattle.pass.specs.Ready.{Summable};
 
 use extension::inner::{Periods, read};
 
+// `Summable` is a clause and no type: each function here asks room for another count of cells.
+
 // The extension summed from 0 up to end, within one period.
 #[tactic(auto, using(crate::proofs::Sums::summing))]
 fn sum_to(src: &[i64], end: usize) -> i64

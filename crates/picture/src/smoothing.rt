@@ -6,6 +6,7 @@ use plan::Plan;
 use plan::inner::Sides;
 
 // All passes across and k passes down, of the samples into dst. The pass before stands in the other slice.
+// A recursion over two slices that are no struct: the reason stands at `smooth_into` of `series`.
 pub(crate) fn smooth_into(
     across: Plan,
     down: Plan,

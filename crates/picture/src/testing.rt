@@ -11,10 +11,7 @@ use refusals::inner::{Span, picture_allowed, picture_cells, samples_allowed};
 fn lengths_differ(cells: usize, samples: usize, results: usize, work: usize) -> bool
     ensures { result ≡ R.differs samples cells || R.differs results cells || R.differs work cells }
 {
-    if samples != cells {
-        return true;
-    }
-    refusals::inner::lengths_differ(results, cells, work, cells)
+    samples != cells || refusals::inner::lengths_differ(results, cells, work, cells)
 }
 
 // Where row 7 applies the cells are 0, and whether lengths differ from that does not matter.

@@ -18,7 +18,7 @@ pub fn floor(number: i64, divisor: u64) -> i64
     (number as u64 / divisor) as i64
 }
 
-// What the quotient below leaves of the number. `rem_euclid` would divide again: whole output took 1.6 times as long.
+// What the quotient below leaves of the number. With `rem_euclid`, which divides again, whole output takes 1.6 times as long.
 pub fn rest(number: i64, below: i64, divisor: u64) -> u64
     requires dividend { Dividend number divisor }
     requires below_value { below ≡ meant.floor number divisor }

@@ -35,6 +35,7 @@ fn summed(taps: &[i64], samples: &[i32], n: usize, span: Span) -> i64
     ensures { result ≡ sum span.end (share_in taps.now samples.now n) }
 {
     let mut s: i64 = 0;
+    // by index: a sample's weight goes by its place
     for p in span.start..span.end {
         s += weight(taps, samples.len(), n, p) * i64::from(samples[p]);
     }

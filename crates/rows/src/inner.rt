@@ -15,7 +15,7 @@ pub fn smooth_rows(plan: Plan, sides: Sides, samples: &[i32], dst: &mut [i64], o
     ensures { dst.new ≡ P.across (results fold (stages_of plan)) sides.width sides.height samples.now }
 {
     for y in 0..sides.height {
-        // of three slices: chunks zipped twice are no plainer
+        // three slices, two of them written: chunks zipped twice are no plainer
         let start = y * sides.width;
         let end = start + sides.width;
         series::inner::smooth_into(

@@ -11,7 +11,7 @@ ghost use Rattle.taps.specs.Taps.{mirrored, staged, taps_of, Held, Stageable, Re
 ghost use Rattle.taps.specs.Weigh.{strided_in, weight_in, Stridable, Weighable};
 
 pub use crate::lent::with_taps;
-use pass::inner::{cell, slide};
+use pass::inner::{slide, weigh};
 use plan::Plan;
 
 // The most taps that an accepted plan has from the centre outward.
@@ -44,6 +44,7 @@ fn first_window(taps: &[i64], radius: usize) -> i64
     ensures { result ≡ window (mirrored taps.now) radius (pos 0) }
 {
     let mut s = tap_at(taps, 0);
+    // no plainer by `1..=radius`: that loop has two ends, and each asks a proof of its own
     for j in 0..radius {
         let t = tap_at(taps, j + 1);
         s += t + t;
@@ -57,14 +58,12 @@ fn stage_more(plan: Plan, src: &[i64], dst: &mut [i64])
     ensures { dst.new ≡ staged (stage_of plan) src.now }
 {
     let radius = plan.radius as usize;
-    let inner = plan.inner as i64;
-    let edge = plan.edge as i64;
     let mut w = first_window(src, radius);
     let mut lo = tap_at(src, radius + 1);
     for (n, tap) in dst.iter_mut().enumerate() {
         let first = tap_at(src, n.abs_diff(radius));
         let hi = tap_at(src, n + radius + 1);
-        *tap = cell(inner, edge, w, lo, hi);
+        *tap = weigh(plan, w, lo, hi);
         w = slide(w, hi, first);
         lo = first;
     }
@@ -81,6 +80,7 @@ fn no_stages(dst: &mut [i64])
 }
 
 // The taps of k stages into dst. Those of one stage less stand in the other slice.
+// A recursion over two slices that are no struct: the reason stands at `smooth_into` of `series`.
 fn stages_into(plan: Plan, k: u64, dst: &mut [i64], other: &mut [i64])
     requires { (k ≤ plan.passes) × Ready plan (length dst.old) (length other.old) }
     ensures { dst.new ≡ taps_of (length dst.old) (replicate k (stage_of plan)) }

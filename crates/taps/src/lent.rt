@@ -8,7 +8,8 @@ ghost use Rattle.taps.specs.Lent.{Whole};
 use crate::inner::{MOST_TAPS, tap_count, taps_into};
 use plan::Plan;
 
-// What f makes of all the taps, and no cell behind them. It may write the cells that go with them.
+// Answers what f makes of the plan's taps, lent as just so many. `cells` are lent on to f, which may write them.
+// They are an argument: of a slice that a closure captures and writes, a proof knows the length alone afterwards.
 pub fn with_taps<A, F: FnOnce(&[i64], &mut [i64]) -> A>(plan: Plan, cells: &mut [i64], f: F) -> A
     requires accepted { AcceptedPlan (stages_of plan) }
     requires callable { (t : Bor (List ℤ)) (c : MutBor (List ℤ)) → Whole (stages_of plan) t.now → c.now ≡ cells.old → F.pre f t c }
@@ -17,7 +18,7 @@ pub fn with_taps<A, F: FnOnce(&[i64], &mut [i64]) -> A>(plan: Plan, cells: &mut 
     let count = tap_count(plan);
     let mut taps = [0i64; MOST_TAPS];
     let mut other = [0i64; MOST_TAPS];
-    let front = &mut taps[0..count];
-    taps_into(plan, front, &mut other[0..count]);
+    let front = &mut taps[..count];
+    taps_into(plan, front, &mut other[..count]);
     f(front, cells)
 }

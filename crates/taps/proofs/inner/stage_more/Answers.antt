@@ -1,11 +1,10 @@
 -- Before tap n, w is the window around n and lo the tap before it; the first n taps are those of one stage more.
 use Prim.Native.Nat.{◌+◌}
 use mathlib.Core.Path.{refl}
-use mir.Syntax.{w64}
 use native.Mathlib.Omega.{arith}
 use lib.ListN.{length-set}
 use borrow.Author.Rules.{rules}
-use Rattle.std.proofs.lemmas.Int.{to_z-of_z, to_z_pos}
+use Rattle.std.proofs.lemmas.Int.{to_z-of_z}
 use Rattle.theory.specs.Fill.{fill_done}
 use Rattle.pass.specs.Turn.{windowed}
 use Rattle.taps.specs.Taps.{mirrored_apart, length_staged, stage_cell, stage_slide, stage_low, stage_slid, stage_written}
@@ -20,11 +19,9 @@ loop-n-init c =
     let p = mirrored_apart c.args.src.now 0 (r + 1) {i = r + 1} (omega arith) in
     (search rules, grind (arith, to_z-of_z), grind (arith, to_z-of_z), refl)
 
-pub cell-requires : goal.cell-requires
-cell-requires c =
+pub weigh-requires-clause-fits : goal.weigh-requires-clause-fits
+weigh-requires-clause-fits c =
     let i = c.loop-n.invariant in
-    let b = to_z_pos w64 c.args.plan.inner (omega arith) in
-    let a = to_z_pos w64 c.args.plan.edge (omega arith) in
     let p = stage_cell _ c.requires i.1 i.2 refl in
     grind (arith, to_z-of_z)
 
@@ -37,8 +34,6 @@ slide-w-requires c =
 pub loop-n-preserved : goal.loop-n-preserved
 loop-n-preserved c =
     let i = c.loop-n.invariant in
-    let b = to_z_pos w64 c.args.plan.inner (omega arith) in
-    let a = to_z_pos w64 c.args.plan.edge (omega arith) in
     let w = stage_slid _ c.requires i.1 i.2 refl in
     let l = stage_low _ c.requires i.1 i.2 refl in
     let t = stage_written _ c.requires i.1 i.2 refl _ i.0 (omega arith) i.3 in
