@@ -32,6 +32,7 @@ pub(crate) fn all_acceptable(bound: u64, samples: &[i32], span: Span) -> bool
     }
     let most = bound as i32;
     let mut acceptable = true;
+    // by index: a span may end before it starts, and no slice can be cut there
     for i in span.start..span.end {
         acceptable = acceptable & is_acceptable(most, samples[i]);
     }

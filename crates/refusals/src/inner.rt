@@ -24,18 +24,17 @@ pub fn lengths_differ(a: usize, asked_a: usize, b: usize, asked_b: usize) -> boo
 pub fn plans_allowed(across: Plan, down: Plan) -> Result<(), Refusal>
     ensures { answer_of result ≡ R.first_of (R.plan_rows (stages_of across ∷ stages_of down ∷ [])) }
 {
-    let first = allowed(across);
-    let second = allowed(down);
-    let Err(a) = first else {
-        return second;
-    };
-    let Err(b) = second else {
-        return first;
-    };
-    if a.number() < b.number() {
-        return first;
+    match (allowed(across), allowed(down)) {
+        (Err(a), Err(b)) => {
+            if a.number() < b.number() {
+                Err(a)
+            } else {
+                Err(b)
+            }
+        }
+        (Err(a), Ok(())) => Err(a),
+        (Ok(()), second) => second,
     }
-    second
 }
 
 // Rows 5 to 8, of the bound, its product with the divisor, and two tests that the call has made.
@@ -110,6 +109,7 @@ pub fn picture_allowed(raster: Raster, wrong_length: bool) -> Result<(), Refusal
 }
 
 // Some places in a row, from start up to end, end itself left out.
+// A `Range` cannot be copied. That end is within a slice is a clause of each function: a span knows no slice.
 #[derive(Clone, Copy)]
 pub struct Span {
     pub start: usize,

@@ -15,17 +15,11 @@ pub fn takes(bound: u64, x: f64) -> bool
     requires { bound ≤ max_result }
     ensures { result ≡ meant.takes bound x }
 {
-    if !(x >= -9223372036854775808.0) {
-        return false;
-    }
-    if !(x < 9223372036854775808.0) {
+    if !(x >= -9223372036854775808.0 && x < 9223372036854775808.0) {
         return false;
     }
     let whole = std::num::truncating_f64_to_i64(x);
-    if bound < whole.unsigned_abs() {
-        return false;
-    }
-    whole as f64 == x
+    whole.unsigned_abs() <= bound && whole as f64 == x
 }
 
 // Row 11, of all doubles.
@@ -33,9 +27,11 @@ pub fn doubles_allowed(bound: u64, doubles: &[f64]) -> Result<(), Refusal>
     requires { bound ≤ max_result }
     ensures { answer_of result ≡ R.first_of (R.row_at 11 (length doubles.now) (λ i. not (meant.takes bound (slice_index_or doubles.now i nan))) ∷ []) }
 {
-    let start = 0;
-    let end = doubles.len();
-    counted(Span { start, end }, |i: usize| !takes(bound, doubles[i]))
+    let all = Span {
+        start: 0,
+        end: doubles.len(),
+    };
+    counted(all, |i: usize| !takes(bound, doubles[i]))
 }
 
 // The whole number that a double is. Minus zero, which no cast takes, is 0.
