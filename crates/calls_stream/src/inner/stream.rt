@@ -46,7 +46,7 @@ impl From<io::Error> for Ended {
     }
 }
 
-// Doubles, and the words that they were read from: a NaN's own bits cannot be read from it. Two vectors, for calls take a slice of doubles.
+// Doubles, and the words that they were read from: a NaN's own bits cannot be read from it. Two vectors, since the calls take a slice of doubles.
 #[derive(Drop)]
 pub struct Doubles {
     pub values: Vec<f64>,
@@ -70,7 +70,7 @@ impl Doubles {
 
 #[derive(Drop)]
 pub struct Stream<R, W> {
-    alloc: Global,
+    pub alloc: Global,
     from: R,
     to: W,
 }
@@ -78,10 +78,6 @@ pub struct Stream<R, W> {
 impl<R: Read, W: Write> Stream<R, W> {
     pub fn new(alloc: Global, from: R, to: W) -> Stream<R, W> {
         Stream { alloc, from, to }
-    }
-
-    pub fn alloc(&self) -> Global {
-        self.alloc
     }
 
     pub fn word(&mut self) -> Result<u64, Ended> {
