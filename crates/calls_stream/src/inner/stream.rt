@@ -1,5 +1,6 @@
 // A stream: 8-byte words come in, high byte first, and lines of words go out, one space between two.
-ghost use Rattle.std.specs.Prelude.{◌≡◌, ◌≤◌, IfOk, vec_len, map, from_bits};
+ghost use Rattle.std.specs.Prelude.{◌≡◌, ◌≤◌, IfOk, OnOk, IfSome, [], ◌∷◌, decimal, vec_len, map, from_bits};
+ghost use Rattle.std.specs.Io.KnownBytes.{Appends};
 ghost use lib.Ieee.{binary64};
 ghost use Rattle.std.specs.List.{zip};
 ghost use Rattle.calls_stream.specs.Doubles.{bits_of};
@@ -150,11 +151,15 @@ impl<R: Read, W: Write> Stream<R, W> {
     }
 
     // The first word of a line has no space before it.
-    pub fn first(&mut self, n: u64) -> Result<(), Ended> {
+    pub fn first(&mut self, n: u64) -> Result<(), Ended>
+        ensures { OnOk result (Appends (W.contents self.old.to) (W.contents self.new.to) (decimal n)) }
+    {
         Ok(write!(self.to, "{n}")?)
     }
 
-    pub fn number<T: Element>(&mut self, n: T) -> Result<(), Ended> {
+    pub fn number<T: Element>(&mut self, n: T) -> Result<(), Ended>
+        ensures { OnOk result (IfSome (T.Display.output n) (λ text. Appends (W.contents self.old.to) (W.contents self.new.to) (32 ∷ text))) }
+    {
         Ok(write!(self.to, " {n}")?)
     }
 
@@ -196,7 +201,9 @@ impl<R: Read, W: Write> Stream<R, W> {
         self.print(&doubles.bits(self.alloc)?)
     }
 
-    pub fn end_line(&mut self) -> Result<(), Ended> {
+    pub fn end_line(&mut self) -> Result<(), Ended>
+        ensures { OnOk result (Appends (W.contents self.old.to) (W.contents self.new.to) (10 ∷ [])) }
+    {
         Ok(writeln!(self.to)?)
     }
 
