@@ -1,4 +1,5 @@
 // Doubles in, doubles and summaries out, and results as doubles and back.
+use calls_stream::inner::element::Element;
 use calls_stream::inner::stream::{Ended, Stream};
 use plan::Refusal;
 use std::io::{Read, Write};
@@ -7,13 +8,9 @@ use summary::Summary;
 // Call 6.
 pub fn doubles_in<R: Read, W: Write>(stream: &mut Stream<R, W>) -> Result<(), Ended> {
     let bound = stream.word()?;
-    let doubles = stream.doubles()?.values;
-    let mut samples = stream.slice::<i32>()?;
-    let answer = samples::doubles_in(bound, &doubles, &mut samples);
-    stream.answer(&answer)?;
-    stream.bad(&answer)?;
-    stream.print(&samples)?;
-    stream.end_line()
+    taken(stream, |doubles, samples| {
+        samples::doubles_in(bound, doubles, samples)
+    })
 }
 
 // Call 8.
@@ -50,18 +47,30 @@ where
     let mut cells = stream.doubles()?;
     let answer = call(&results, &mut cells.values);
     stream.answer(&answer)?;
-    stream.print_doubles(&mut cells)?;
+    stream.print_doubles(&cells)?;
     stream.end_line()
 }
 
 // Call 26.
 pub fn doubles_to_results<R: Read, W: Write>(stream: &mut Stream<R, W>) -> Result<(), Ended> {
+    taken(stream, exact::doubles_to_results)
+}
+
+// Doubles and a slice are read, and what the call makes of them is printed.
+fn taken<R, W, T, F>(stream: &mut Stream<R, W>, call: F) -> Result<(), Ended>
+where
+    R: Read,
+    W: Write,
+    T: Element,
+    F: FnOnce(&[f64], &mut [T]) -> Result<(), Refusal>,
+    requires { F.IsAlwaysCallable call }
+{
     let doubles = stream.doubles()?.values;
-    let mut results = stream.slice::<i64>()?;
-    let answer = exact::doubles_to_results(&doubles, &mut results);
+    let mut cells = stream.slice::<T>()?;
+    let answer = call(&doubles, &mut cells);
     stream.answer(&answer)?;
     stream.bad(&answer)?;
-    stream.print(&results)?;
+    stream.print(&cells)?;
     stream.end_line()
 }
 

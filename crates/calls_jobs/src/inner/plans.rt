@@ -35,7 +35,7 @@ pub fn divisor_and_reach<R: Read, W: Write>(stream: &mut Stream<R, W>) -> Result
 pub fn plans_for_all<R: Read, W: Write>(stream: &mut Stream<R, W>) -> Result<(), Ended> {
     let passes = stream.word()?;
     let inner = stream.word()?;
-    let mut words = Vec::new(stream.alloc());
+    let mut words = Vec::new(stream.alloc);
     for sigma in 1..=Planned::MAX_SIGMA {
         words.extend_from_slice(&words_of(planner::plan_for(sigma, passes, inner)))?;
     }

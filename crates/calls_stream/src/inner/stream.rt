@@ -1,8 +1,11 @@
 // A stream: 8-byte words come in, high byte first, and lines of words go out, one space between two.
-ghost use Rattle.std.specs.Prelude.{◌≡◌, ◌≤◌, IfOk, vec_len, map, from_bits};
+ghost use Rattle.std.specs.Prelude.{◌≡◌, ℕ, ◌≤◌, ◌<◌, IfOk, OnOk, IfSome, [], ◌∷◌, ◌++◌, length, codes, decimal, vec_len, map, from_bits, to_bits};
+ghost use Rattle.std.specs.Io.KnownBytes.{Appends};
 ghost use lib.Ieee.{binary64};
 ghost use Rattle.std.specs.List.{zip};
+ghost use Rattle.calls_stream.specs.Checksum.{checksum_of};
 ghost use Rattle.calls_stream.specs.Doubles.{bits_of};
+ghost use Rattle.calls_stream.specs.Words.{Takes, TakesAll, plan_words, raster_words};
 
 use crate::inner::checksum::checksum;
 use crate::inner::element::Element;
@@ -46,7 +49,7 @@ impl From<io::Error> for Ended {
     }
 }
 
-// Doubles, and the words that they were read from: a NaN's own bits cannot be read from it. Two vectors, for calls take a slice of doubles.
+// Doubles, and the words that they were read from: a NaN's own bits cannot be read from it. Two vectors, since the calls take a slice of doubles.
 #[derive(Drop)]
 pub struct Doubles {
     pub values: Vec<f64>,
@@ -70,21 +73,22 @@ impl Doubles {
 
 #[derive(Drop)]
 pub struct Stream<R, W> {
-    alloc: Global,
+    pub alloc: Global,
     from: R,
     to: W,
 }
 
 impl<R: Read, W: Write> Stream<R, W> {
-    pub fn new(alloc: Global, from: R, to: W) -> Stream<R, W> {
+    pub fn new(alloc: Global, from: R, to: W) -> Stream<R, W>
+        ensures from { result.from ≡ from }
+        ensures to { result.to ≡ to }
+    {
         Stream { alloc, from, to }
     }
 
-    pub fn alloc(&self) -> Global {
-        self.alloc
-    }
-
-    pub fn word(&mut self) -> Result<u64, Ended> {
+    pub fn word(&mut self) -> Result<u64, Ended>
+        ensures { IfOk result (λ n. Takes (R.remaining self.old.from) (R.remaining self.new.from) n) }
+    {
         let mut bytes = [0u8; 8];
         if self.from.read_exact(&mut bytes).is_err() {
             return Err(Ended::Closed);
@@ -92,11 +96,15 @@ impl<R: Read, W: Write> Stream<R, W> {
         Ok(u64::from_be_bytes(bytes))
     }
 
-    pub fn element<T: Element>(&mut self) -> Result<T, Ended> {
+    pub fn element<T: Element>(&mut self) -> Result<T, Ended>
+        ensures { IfOk result (λ x. (n : ℕ) × Takes (R.remaining self.old.from) (R.remaining self.new.from) n × (x ≡ T.read n)) }
+    {
         Ok(T::from_word(self.word()?))
     }
 
-    pub fn plan(&mut self) -> Result<Plan, Ended> {
+    pub fn plan(&mut self) -> Result<Plan, Ended>
+        ensures { IfOk result (λ p. TakesAll (R.remaining self.old.from) (R.remaining self.new.from) (plan_words p)) }
+    {
         let radius = self.word()?;
         let inner = self.word()?;
         let edge = self.word()?;
@@ -104,7 +112,9 @@ impl<R: Read, W: Write> Stream<R, W> {
         Ok(Plan::new(radius, inner, edge, passes))
     }
 
-    pub fn raster(&mut self) -> Result<Raster, Ended> {
+    pub fn raster(&mut self) -> Result<Raster, Ended>
+        ensures { IfOk result (λ r. TakesAll (R.remaining self.old.from) (R.remaining self.new.from) (raster_words r)) }
+    {
         let across = self.plan()?;
         let down = self.plan()?;
         let bound = self.word()?;
@@ -154,11 +164,15 @@ impl<R: Read, W: Write> Stream<R, W> {
     }
 
     // The first word of a line has no space before it.
-    pub fn first(&mut self, n: u64) -> Result<(), Ended> {
+    pub fn first(&mut self, n: u64) -> Result<(), Ended>
+        ensures { OnOk result (Appends (W.contents self.old.to) (W.contents self.new.to) (decimal n)) }
+    {
         Ok(write!(self.to, "{n}")?)
     }
 
-    pub fn number<T: Element>(&mut self, n: T) -> Result<(), Ended> {
+    pub fn number<T: Element>(&mut self, n: T) -> Result<(), Ended>
+        ensures { OnOk result (IfSome (T.Display.output n) (λ text. Appends (W.contents self.old.to) (W.contents self.new.to) (32 ∷ text))) }
+    {
         Ok(write!(self.to, " {n}")?)
     }
 
@@ -182,11 +196,16 @@ impl<R: Read, W: Write> Stream<R, W> {
     }
 
     // A double is printed as its bits.
-    pub fn double(&mut self, x: f64) -> Result<(), Ended> {
+    pub fn double(&mut self, x: f64) -> Result<(), Ended>
+        ensures { OnOk result (Appends (W.contents self.old.to) (W.contents self.new.to) (32 ∷ decimal (to_bits binary64 x))) }
+    {
         self.number(f64_to_bits_with_nan(x))
     }
 
-    pub fn print<T: Element>(&mut self, values: &[T]) -> Result<(), Ended> {
+    pub fn print<T: Element>(&mut self, values: &[T]) -> Result<(), Ended>
+        ensures { OnOk result (MOST_PRINTED < length values.now → Appends (W.contents self.old.to) (W.contents self.new.to)
+            (codes " # " ++ decimal (length values.now) ++ 32 ∷ decimal (checksum_of (map T.value values.now)))) }
+    {
         if values.len() > MOST_PRINTED {
             return Ok(write!(self.to, " # {} {}", values.len(), checksum(values))?);
         }
@@ -200,7 +219,9 @@ impl<R: Read, W: Write> Stream<R, W> {
         self.print(&doubles.bits(self.alloc)?)
     }
 
-    pub fn end_line(&mut self) -> Result<(), Ended> {
+    pub fn end_line(&mut self) -> Result<(), Ended>
+        ensures { OnOk result (Appends (W.contents self.old.to) (W.contents self.new.to) (10 ∷ [])) }
+    {
         Ok(writeln!(self.to)?)
     }
 
