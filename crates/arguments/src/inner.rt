@@ -70,21 +70,11 @@ pub fn fields(plan: Plan, bound: u64) -> Result<Fields, Refusal>
     ensures answer { answer_of result ≡ first_of (field_rows (numbers_of plan) bound) }
     ensures same { IfOk result (λ f. AreFields f (numbers_of plan) bound) }
 {
-    let Ok(passes) = u8::try_from(plan.passes) else {
-        return Err(Refusal::Passes);
-    };
-    let Ok(radius) = u16::try_from(plan.radius) else {
-        return Err(Refusal::Radius);
-    };
-    let Ok(inner) = u8::try_from(plan.inner) else {
-        return Err(Refusal::InnerWeight);
-    };
-    let Ok(edge) = u8::try_from(plan.edge) else {
-        return Err(Refusal::EdgeWeight);
-    };
-    let Ok(bound) = u32::try_from(bound) else {
-        return Err(Refusal::Bound);
-    };
+    let passes = u8::try_from(plan.passes).ok().ok_or(Refusal::Passes)?;
+    let radius = u16::try_from(plan.radius).ok().ok_or(Refusal::Radius)?;
+    let inner = u8::try_from(plan.inner).ok().ok_or(Refusal::InnerWeight)?;
+    let edge = u8::try_from(plan.edge).ok().ok_or(Refusal::EdgeWeight)?;
+    let bound = u32::try_from(bound).ok().ok_or(Refusal::Bound)?;
     Ok(Fields {
         radius,
         inner,
