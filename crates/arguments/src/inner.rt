@@ -10,7 +10,7 @@ ghost use Rattle.arguments.specs.Fields.{AreFields};
 use plan::{Plan, Raster, Refusal};
 use record::Fields;
 
-// Above every limit.
+// Above every limit. A number and no `Option`: the definition `count_of` gives it, so that the call refuses by its own row.
 const REFUSED: u64 = 9007199254740992;
 
 // The double as a whole number, negative ones too.
@@ -27,25 +27,17 @@ pub fn whole(x: f64) -> i64
 pub fn count(x: f64) -> u64
     ensures { result ≡ count_of x }
 {
-    let number = whole(x);
-    if number < 0 {
-        return REFUSED;
-    }
-    number as u64
+    u64::try_from(whole(x)).unwrap_or(REFUSED)
 }
 
 // Radius, inner weight, edge weight and passes.
 pub fn plan(numbers: &[f64]) -> Plan
     ensures { numbers_of result ≡ plan_in numbers.now }
 {
-    if numbers.len() != 4 {
+    let &[radius, inner, edge, passes] = numbers else {
         return Plan::new(REFUSED, REFUSED, REFUSED, REFUSED);
-    }
-    let radius = count(numbers[0]);
-    let inner = count(numbers[1]);
-    let edge = count(numbers[2]);
-    let passes = count(numbers[3]);
-    Plan::new(radius, inner, edge, passes)
+    };
+    Plan::new(count(radius), count(inner), count(edge), count(passes))
 }
 
 // A picture's two plans, its bound and its sides.

@@ -8,6 +8,7 @@ use plan::inner::{outside, row};
 use plan::{Plan, Refusal};
 
 // Rows 7 and 8, of so many cells given and so many lent.
+// Not one function with `allowed` of `writer`: two rows each, and it would take five numbers.
 fn lengths_allowed(given: usize, lent: usize) -> Result<(), Refusal>
     ensures { answer_of result ≡ R.first_of (meant.length_rows given lent) }
 {

@@ -8,19 +8,17 @@ ghost use Rattle.encoding.specs.Append.{Wrote, Room};
 
 use encoding::inner::cursor::Cursor;
 use plan::Refusal;
+use plan::inner::{outside, row};
 use record::{Fields, Job};
 
 // Rows 7 and 8, of so many samples and a slice of so many bytes.
+// Not one function with `lengths_allowed` of `exact`: two rows each, and it would take five numbers.
 pub(crate) fn allowed(samples: usize, room: usize) -> Result<(), Refusal>
     ensures { answer_of result ≡ first_of (M.write_rows samples room (M.record_size samples)) }
 {
-    if plan::inner::outside(1, Job::MAX_SAMPLES, samples as u64) {
-        return Err(Refusal::Size);
-    }
-    if room != 27 + 4 * samples {
-        return Err(Refusal::Length);
-    }
-    Ok(())
+    let bad_size = outside(1, Job::MAX_SAMPLES, samples as u64);
+    row(bad_size, Refusal::Size)?;
+    row(room != 27 + 4 * samples, Refusal::Length)
 }
 
 fn put_field(out: &mut Cursor, tag: u8, value: &[u8])

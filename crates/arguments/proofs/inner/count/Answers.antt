@@ -4,18 +4,22 @@ use borrow.Author.Rules.{sfits_of}
 use mir.Syntax.{w64}
 use mir.Val.{to_z, of_z}
 use mir.Facts.{to_z-of_z}
-use Rattle.meaning.specs.Arguments.{unsigned, count_of}
-use Rattle.theory.specs.Arguments.{count_negative, count_from}
+use Rattle.std.proofs.Common.{refl, arith, ℕ, ℤ, Result, Ok, Err, SFits, pos, negsuc, nat_abs}
+use Rattle.std.specs.Int.{FitsUnsignedBits}
+use Rattle.std.specs.Result.{OkIff, result_unwrap_or}
+use Rattle.meaning.specs.Arguments.{unsigned, refused, count_of}
 use Rattle.arguments.proofs.inner.count.Goals as goal
-use Rattle.arguments.proofs.inner.count.Goals.{After-whole-number}
 
-read_back : (c : After-whole-number) → to_z w64 (of_z w64 c.whole-number.result) ≡ c.whole-number.result
-read_back c = to_z-of_z {w = w64} (sfits_of c.whole-number.type_inv)
-
-pub returns-then-number-lt0 : goal.returns-then-number-lt0
-unfolding count_of
-returns-then-number-lt0 c = sym (count_negative _ (rw (read_back (goal.at.returns-then-number-lt0 c).After-whole-number) at c.if-number-lt0.true)) ∙ ap unsigned c.whole-number.ensures
+tried : {E : Type 0} (z : ℤ) (t : Result ℕ E) → OkIff t (FitsUnsignedBits 64 z) (nat_abs z) → SFits w64 z → result_unwrap_or t refused ≡ unsigned z
+unfolding unsigned
+tried (pos n) (Ok x) h f = h.1
+tried (negsuc n) (Ok x) h f = absurd h.0
+tried (pos n) (Err e) h f = let no : ⊥ = h (omega (arith, f.sfits)) in absurd no
+tried (negsuc n) (Err e) h f = refl
 
 pub returns : goal.returns
 unfolding count_of
-returns c = rw (read_back (goal.at.returns c).After-whole-number) (sym (count_from _ (rw (read_back (goal.at.returns c).After-whole-number) at c.if-number-lt0.false)) ∙ ap unsigned c.whole-number.ensures)
+returns c =
+    let f = sfits_of c.whole.type_inv in
+    let same = to_z-of_z {w = w64} f in
+    c.unwrap_or.ensures ∙ tried _ c.try_from.result (rw same at c.try_from.ensures) f ∙ ap unsigned c.whole.ensures

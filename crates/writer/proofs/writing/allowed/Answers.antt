@@ -1,16 +1,19 @@
--- Row by row.
-use Rattle.std.proofs.Common.{refl, sym, ◌∙◌, ne_eqb, eq-eqb}
-use Rattle.meaning.specs.Refusals as R
+-- Row 7, and where it does not apply row 8.
+use Rattle.std.proofs.Common.{sym, ◌∙◌, arith}
+use Rattle.meaning.specs.Limits.{least, max_samples}
+use Rattle.theory.specs.Tests.{outside_no}
+use Rattle.plan.specs.Structs.{passed_on}
+use Rattle.plan.specs.Rows.{row_here, row_next, row_off}
 use Rattle.writer.proofs.writing.allowed.Goals as goal
 
-pub returns-then-outside : goal.returns-then-outside
-unfolding R.first_of
-returns-then-outside c = rw (sym c.outside.ensures ∙ c.if-outside.true) refl
+pub returns-in_err-row : goal.returns-in_err-row
+returns-in_err-row c = passed_on _ _ c.from_residual.ensures.1 (rw (← c.outside-bad_size.ensures) (row_here _ _ _ c.in_err-row.ensures))
 
-pub returns-then-room-samples : goal.returns-then-room-samples
-unfolding R.first_of
-returns-then-room-samples c = rw (sym c.outside.ensures ∙ c.if-outside.false, ne_eqb _ _ c.if-room-samples.true) refl
+pub overflow_mul-samples : goal.overflow_mul-samples
+overflow_mul-samples c = omega (arith, outside_no least max_samples c.args.samples (sym c.outside-bad_size.ensures ∙ row_off _ tt c.in_ok-row.ensures))
+
+pub overflow_add-samples : goal.overflow_add-samples
+overflow_add-samples c = omega (arith, outside_no least max_samples c.args.samples (sym c.outside-bad_size.ensures ∙ row_off _ tt c.in_ok-row.ensures))
 
 pub returns : goal.returns
-unfolding R.first_of
-returns c = rw (sym c.outside.ensures ∙ c.if-outside.false, eq-eqb _ _ c.if-room-samples.false) refl
+returns c = rw (← c.outside-bad_size.ensures) (row_next _ _ tt c.in_ok-row.ensures c.row-2.ensures)
