@@ -10,7 +10,7 @@ use plan::Refusal;
 use refusals::inner::{Span, within_reach};
 use taps::inner::weight;
 
-// Sample p of len changes by so much, and results gain by the taps. There is room for every gain.
+// Sample p of len changes by `change`, and results gain by the taps. There is room for every gain.
 #[derive(Clone, Copy)]
 pub struct Edit<'a> {
     pub taps: &'a [i64],
@@ -42,6 +42,7 @@ impl Edit<'_> {
         requires { (limit ≤ max_result) × (span.end ≤ length results.now) × (length results.now ≡ self.len) }
         ensures { answer_of result ≡ R.first_of (R.row_at 12 (length results.now) (picked span.start span.end (refused_in limit self.entry.taps.now self.entry.p self.entry.change results.now)) ∷ []) }
     {
+        // by index: a span may end before it starts, and no slice can be cut there
         for n in span.start..span.end {
             if too_large(limit, results[n], self.gain(n)) {
                 return Err(Refusal::BadResult { position: n });
@@ -56,6 +57,7 @@ impl Edit<'_> {
         requires writable { Writable self.taps.now self.p self.change results.old span.start span.end }
         ensures { results.new ≡ gained_in self.entry.taps.now self.entry.p self.entry.change results.old span.start span.end }
     {
+        // by index: `gain` takes the place itself
         for n in span.start..span.end {
             results[n] += self.gain(n);
         }

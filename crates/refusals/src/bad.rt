@@ -16,10 +16,7 @@ fn is_acceptable(most: i32, x: i32) -> bool
     requires { T (non_neg most) }
     ensures { result ≡ leb (nat_abs x) (nat_abs most) }
 {
-    if x < 0 - most {
-        return false;
-    }
-    x <= most
+    -most <= x && x <= most
 }
 
 // Is none bad? The loop counts nothing and has no way out, so that several samples are compared at once. Of a bound above the largest, which no call accepts, the answer is no.
