@@ -1,10 +1,12 @@
 // A stream: 8-byte words come in, high byte first, and lines of words go out, one space between two.
-ghost use Rattle.std.specs.Prelude.{◌≡◌, ℕ, ◌≤◌, ◌<◌, IfOk, OnOk, IfSome, [], ◌∷◌, ◌++◌, length, codes, decimal, vec_len, map, from_bits, to_bits};
+ghost use Rattle.std.specs.Prelude.{◌≡◌, ℕ, pos, ◌≤◌, ◌<◌, IfOk, OnOk, IfSome, [], ◌∷◌, ◌++◌, length, codes, decimal, vec_len, map, from_bits, to_bits};
 ghost use Rattle.std.specs.Io.KnownBytes.{Appends};
 ghost use lib.Ieee.{binary64};
 ghost use Rattle.std.specs.List.{zip};
+ghost use Rattle.plan.specs.Structs.{answer_of};
 ghost use Rattle.calls_stream.specs.Checksum.{checksum_of};
 ghost use Rattle.calls_stream.specs.Doubles.{bits_of};
+ghost use Rattle.calls_stream.specs.Ends.{EndsWell};
 ghost use Rattle.calls_stream.specs.Words.{Takes, TakesAll, plan_words, raster_words};
 
 use crate::inner::checksum::checksum;
@@ -177,7 +179,10 @@ impl<R: Read, W: Write> Stream<R, W> {
     }
 
     // The first two words of a line: what refuses the call, and where. Both are 0 of a call that is done.
-    pub fn answer<T>(&mut self, answer: &Result<T, Refusal>) -> Result<(), Ended> {
+    pub fn answer<T>(&mut self, answer: &Result<T, Refusal>) -> Result<(), Ended>
+        ensures { OnOk result (Appends (W.contents self.old.to) (W.contents self.new.to)
+            (decimal (answer_of answer.now).number ++ 32 ∷ decimal (answer_of answer.now).position)) }
+    {
         let (number, position) = match answer {
             Ok(_) => (0, 0),
             Err(refusal) => (refusal.number(), refusal.position()),
@@ -187,7 +192,9 @@ impl<R: Read, W: Write> Stream<R, W> {
     }
 
     // How many samples are bad.
-    pub fn bad<T>(&mut self, answer: &Result<T, Refusal>) -> Result<(), Ended> {
+    pub fn bad<T>(&mut self, answer: &Result<T, Refusal>) -> Result<(), Ended>
+        ensures { OnOk result (Appends (W.contents self.old.to) (W.contents self.new.to) (32 ∷ decimal (answer_of answer.now).bad)) }
+    {
         let bad = match answer {
             Ok(_) => 0,
             Err(refusal) => refusal.bad(),
@@ -215,7 +222,10 @@ impl<R: Read, W: Write> Stream<R, W> {
         Ok(())
     }
 
-    pub fn print_doubles(&mut self, doubles: &Doubles) -> Result<(), Ended> {
+    pub fn print_doubles(&mut self, doubles: &Doubles) -> Result<(), Ended>
+        ensures { OnOk result (MOST_PRINTED < vec_len doubles.now.values → Appends (W.contents self.old.to) (W.contents self.new.to)
+            (codes " # " ++ decimal (vec_len doubles.now.values) ++ 32 ∷ decimal (checksum_of (map pos (map bits_of (zip doubles.now.values.items doubles.now.words.items)))))) }
+    {
         self.print(&doubles.bits(self.alloc)?)
     }
 
@@ -230,6 +240,7 @@ impl<R: Read, W: Write> Stream<R, W> {
     where
         R: Drop,
         W: Drop,
+        ensures { OnOk result (EndsWell ran) }
     {
         match ran {
             Ok(()) | Err(Ended::Closed) => self.to.flush(),

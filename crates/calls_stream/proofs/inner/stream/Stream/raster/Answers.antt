@@ -10,5 +10,5 @@ returns g c =
     let left = g.R.Read.remaining c.plan.new.self.from in
     let last = g.R.Read.remaining c.word-3.new.self.from in
     taken_on _ left last (plan_words c.in_ok-across.across) (down ++ sides) c.in_ok-across.ensures
-        (taken_on left (g.R.Read.remaining c.plan-2.new.self.from) last down sides c.in_ok-down.ensures
-            (_, c.in_ok-bound.ensures, (_, c.in_ok-width.ensures, (_, c.in_ok-height.ensures, refl))))
+    (taken_on left (g.R.Read.remaining c.plan-2.new.self.from) last down sides c.in_ok-down.ensures
+    (_, c.in_ok-bound.ensures, (_, c.in_ok-width.ensures, (_, c.in_ok-height.ensures, refl))))
