@@ -14,7 +14,7 @@
 --   Summaries      the lowest and the highest
 --   Planner        the planner
 --   Plans          a plan's constructor, divisor and reach
---   Refusals       a refusal's number, position and number of bad samples
+--   Refusals       a refusal's number, position and number of bad samples, and of any answer that rows give
 --   Records        the job record's reader and writer, and that each undoes the other
 --   Exact          results as doubles that are the same numbers, and back
 --   Hosts          the calls that other languages have: any of them
