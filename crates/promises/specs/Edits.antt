@@ -47,7 +47,6 @@ use Rattle.theory.specs.Stored as law
 use Rattle.theory.specs.Edits.{length_gained, gained_near, gained_far, gained_changed, gained_changes, changed_same, changed_all}
 use Rattle.theory.specs.Counts.{changed_none}
 use Rattle.plan.specs.declared.Plan.{Plan}
-use Rattle.plan.specs.declared.Refusal.{Refusal}
 use Rattle.plan.specs.Structs.{stages_of, answer_of, value_or, one_end}
 use Rattle.edit.specs.Contract.{Gives}
 use Rattle.edit.proofs.edit_series.Reads as edit-series

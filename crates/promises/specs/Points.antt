@@ -47,7 +47,7 @@ use Rattle.meaning.specs.Values.{ratio, plus_zero}
 use Rattle.meaning.specs.Calls as outcomes
 use Rattle.meaning.specs.Calls.{point_rows}
 use Rattle.meaning.specs.Bounds.{AcceptedPlan, AllowedPoint, FirstAt, Counted}
-use Rattle.theory.specs.Refusals.{done_off, off_done, number_lowest, number_none, if_done_done, if_done_refused}
+use Rattle.theory.specs.Refusals.{number_lowest, number_none, if_done_done, if_done_refused}
 use Rattle.theory.specs.Stages.{divisor_plan}
 use Rattle.theory.specs.Passes.{at_results}
 use Rattle.theory.specs.HalfSample.{half_sample, half_sample_near}
@@ -57,7 +57,7 @@ use Rattle.theory.specs.Accepted.{length_accepted, divisor_allowed}
 use Rattle.theory.specs.AcceptedPoints as tested
 use Rattle.plan.specs.declared.Plan.{Plan}
 use Rattle.plan.specs.declared.Refusal.{Refusal}
-use Rattle.plan.specs.Structs.{stages_of, answer_of, value_or, refusal_of, end_of, end_back, one_end, refused_number}
+use Rattle.plan.specs.Structs.{stages_of, answer_of, value_or, refusal_of, end_back, one_end, refused_number}
 use Rattle.point.proofs.point.Reads as point
 use Rattle.point.proofs.point.Kinds as kinds
 use Rattle.promises.specs.Smoothings.{Exactly}
