@@ -5,9 +5,9 @@ ghost use Rattle.pass.specs.Ready.{Passable, Reached};
 use crate::inner::{slide, weigh};
 use plan::Plan;
 
+// All such cells, from radius + 1 on. sum is the window around the first of them; answers the one after the last.
 // `walk`, this and `stage_more` of taps are three loops by one running sum. What each reads differs, and so do the laws of its reads:
 // a closure for the reads would be called three times a cell, and its contract would be proved by those laws again.
-// All such cells, from radius + 1 on. sum is the window around the first of them; answers the one after the last.
 pub(crate) fn straight(plan: Plan, src: &[i64], sum: i64, dst: &mut [i64]) -> i64
     requires passable { Passable plan src.now (length dst.old) }
     requires reached { Reached plan src.now dst.old (plan.radius + 1) sum }
