@@ -8,6 +8,7 @@ ghost use Rattle.job.specs.Text.{samples_in, series_text, most_text, Lent};
 use encoding::inner::cursor::Cursor;
 use plan::Plan;
 
+// A job has at most 1,024 samples: fixed arrays, so that no memory can run out and a refusal has no other cause.
 const MOST_SAMPLES: usize = record::Job::MAX_SAMPLES as usize;
 
 // Smooths the samples of a stretch.
@@ -46,11 +47,9 @@ fn smooth_into(
     record::inner::load(stretch, samples);
     match series::smooth_series(plan, bound, samples, results, work) {
         Ok(()) => {
-            lines::inner::first_line(out, 0, plan.divisor(), results.len() as u64);
+            lines::inner::done_line(out, plan.divisor(), results.len() as u64);
             lines::inner::result_lines(out, results);
         }
-        Err(refusal) => {
-            lines::inner::first_line(out, refusal.number(), refusal.position() as u64, 0);
-        }
+        Err(refusal) => lines::inner::refused_line(out, refusal),
     }
 }

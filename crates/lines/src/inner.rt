@@ -2,12 +2,30 @@
 ghost use Rattle.std.specs.Prelude.{[], ◌∷◌, ◌++◌};
 ghost use Rattle.meaning.specs.Program.{first_line, result_lines};
 ghost use Rattle.encoding.specs.Append.{Wrote, Room};
+ghost use Rattle.plan.specs.Structs.{refused};
 
 use encoding::inner::cursor::Cursor;
 use itoa::Integer;
+use plan::Refusal;
 
-// Name and three numbers: number, divisor and sample count, or number, position and 0.
-pub fn first_line(out: &mut Cursor, number: u64, second: u64, third: u64)
+// The first line of a job that is done: 0, divisor and sample count.
+pub fn done_line(out: &mut Cursor, divisor: u64, count: u64)
+    requires { Room out.old (first_line 0 divisor count) }
+    ensures { Wrote out.old (first_line 0 divisor count) out.new }
+{
+    first_line(out, 0, divisor, count);
+}
+
+// The one line of a refusal: its number, its position and 0.
+pub fn refused_line(out: &mut Cursor, refusal: Refusal)
+    requires { Room out.old (first_line (refused refusal).number (refused refusal).position 0) }
+    ensures { Wrote out.old (first_line (refused refusal).number (refused refusal).position 0) out.new }
+{
+    first_line(out, refusal.number(), refusal.position() as u64, 0);
+}
+
+// Name and three numbers.
+fn first_line(out: &mut Cursor, number: u64, second: u64, third: u64)
     requires { Room out.old (first_line number second third) }
     ensures { Wrote out.old (first_line number second third) out.new }
 {

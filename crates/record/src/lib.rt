@@ -33,6 +33,7 @@ impl From<Fields> for Plan {
 }
 
 // What the reader answers: the numbers, and the stretch of the record that holds the samples, in bytes.
+// Two numbers and no slice: hosts are told them.
 #[derive(Clone, Copy)]
 pub struct Job {
     pub fields: Fields,

@@ -10,7 +10,7 @@ use plan::{Plan, Refusal};
 // A longer input is no job.
 pub const MOST_BYTES: usize = 4123;
 
-// What the program prints for its input.
+// What the program prints for its input. A slice and no `Vec`: a report is of limited size, and no memory can run out.
 pub fn report(input: &[u8], out: &mut [u8]) -> usize
     requires { most_text ≤ length out.old }
     ensures { Appended out.old 0 (program input.now) out.new result }
@@ -25,7 +25,7 @@ fn report_into(input: &[u8], text: &mut Cursor)
     ensures { Wrote text.old (program input.now) text.new }
 {
     if input.len() > MOST_BYTES {
-        return lines::inner::first_line(text, Refusal::Record.number(), 0, 0);
+        return lines::inner::refused_line(text, Refusal::Record);
     }
     match reader::read_record(input) {
         Ok(job) => {
@@ -33,6 +33,6 @@ fn report_into(input: &[u8], text: &mut Cursor)
             let bound = u64::from(job.fields.bound);
             job::inner::smooth(Plan::from(job.fields), bound, stretch, text);
         }
-        Err(refusal) => lines::inner::first_line(text, refusal.number(), 0, 0),
+        Err(refusal) => lines::inner::refused_line(text, refusal),
     }
 }

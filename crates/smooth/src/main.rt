@@ -12,7 +12,7 @@ use std::io::{Read, Write};
 // So that a longer input shows. What follows is not read, and says nothing: law program_front.
 const MOST_READ: usize = report::inner::MOST_BYTES + 1;
 
-// More than any report has.
+// More than any report has. A job and its report are of limited size: fixed arrays, so that no memory can run out.
 const MOST_PRINTED: usize = 65536;
 
 const UNREAD: &str = "smooth: standard input could not be read to its end";
@@ -41,7 +41,7 @@ fn read_front<R: Read>(from: &mut R, room: &mut [u8]) -> io::Result<usize>
     ensures bytes { IfOk result (λ n. IfSome (R.remaining from.old) (λ xs. take n room.new ≡ take (length room.old) xs)) }
 {
     let mut n = 0;
-    // no `for`: a read gives as much as it likes, so no one knows how many there are
+    // no `for`: a read gives as much as it likes, so how many reads it takes is not known
     while n < room.len() {
         let more = from.read(&mut room[n..])?;
         if more == 0 {
