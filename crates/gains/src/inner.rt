@@ -37,7 +37,7 @@ impl Edit<'_> {
         self.change * weight(self.taps, self.len, n, self.p)
     }
 
-    // Row 12, of the results in a span.
+    // Row 12, of the results in a span. Not the test of `outputs`: this one asks of each result and of what it would be. The limit is no field, as no gain goes by it.
     fn results_allowed(self, limit: u64, results: &[i64], span: Span) -> Result<(), Refusal>
         requires { (limit ≤ max_result) × (span.end ≤ length results.now) × (length results.now ≡ self.len) }
         ensures { answer_of result ≡ R.first_of (R.row_at 12 (length results.now) (picked span.start span.end (refused_in limit self.entry.taps.now self.entry.p self.entry.change results.now)) ∷ []) }
