@@ -35,6 +35,7 @@ pub fn doubles_allowed(bound: u64, doubles: &[f64]) -> Result<(), Refusal>
 }
 
 // The whole number that a double is. Minus zero, which no cast takes, is 0.
+// No `truncating_f64_to_i64`: it shifts the bits of a double where this casts, and each double taken goes through here.
 pub fn whole_of(x: f64) -> i64
     requires { meant.takes max_result x ≡ true }
     ensures { result ≡ to_signed 63 x }
