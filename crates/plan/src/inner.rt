@@ -78,9 +78,14 @@ pub(crate) fn tap_reach(plan: Plan) -> u64
 
 // x times d, or one above the largest result where that is larger.
 fn capped_times(x: u64, d: u64) -> u64
+    requires { 1 ≤ d }
     ensures { result ≡ capped (x * d) }
 {
-    x.saturating_mul(d).min(Plan::MAX_RESULT + 1)
+    // no `saturating_mul`: it needs a product of 128 bits, for which wasm32 would have to import a function
+    if Plan::MAX_RESULT / d < x {
+        return Plan::MAX_RESULT + 1;
+    }
+    x * d
 }
 
 // x times the divisor of an allowed plan, or above the largest result where that is.

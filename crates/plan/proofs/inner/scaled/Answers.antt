@@ -12,6 +12,9 @@ use Rattle.plan.proofs.inner.scaled.Goals as goal
 grow : (x d k : ℕ) → x * d ^ (k + 1) ≡ x * d ^ k * d
 grow x d k = rw (add-one, pow-suc, mul_assoc)
 
+pub capped_times-product-requires : goal.capped_times-product-requires
+capped_times-product-requires c = rw c.tap_sum-d.ensures (tap_sum_positive _ c.requires.inner.0)
+
 pub loop-k-preserved : goal.loop-k-preserved
 loop-k-preserved c =
     let l = c.loop-k in
