@@ -43,3 +43,20 @@ pub fn plans_for_all<R: Read, W: Write>(stream: &mut Stream<R, W>) -> Result<(),
     stream.print(&words)?;
     stream.end_line()
 }
+
+#[cfg(test)]
+mod tests {
+    use super::*;
+    use std::test::Fail;
+
+    // One pass, and inner weight 1.
+    const WORDS: [u8; 16] = [0, 0, 0, 0, 0, 0, 0, 1, 0, 0, 0, 0, 0, 0, 0, 1];
+
+    #[test]
+    fn plans_of_every_sigma_are_printed(rt: HostRuntime) -> Result<(), Fail> {
+        let alloc = rt.alloc();
+        let mut stream = Stream::new(alloc, WORDS.as_slice(), Vec::new(alloc));
+        assert!(rt; plans_for_all(&mut stream).is_ok());
+        Ok(())
+    }
+}

@@ -256,3 +256,39 @@ impl<R: Read, W: Write> Stream<R, W> {
         }
     }
 }
+
+#[cfg(test)]
+mod tests {
+    use super::*;
+    use std::test::Fail;
+
+    // A slice of two: 7, and a NaN that is not the usual one.
+    const TWO: [u8; 24] = [
+        0, 0, 0, 0, 0, 0, 0, 2, 0, 0, 0, 0, 0, 0, 0, 7, 255, 248, 0, 0, 0, 0, 0, 1,
+    ];
+
+    const NAN: u64 = 18444492273895866369;
+
+    #[test]
+    fn a_slice_is_read(rt: HostRuntime) -> Result<(), Fail> {
+        let alloc = rt.alloc();
+        let mut stream = Stream::new(alloc, TWO.as_slice(), Vec::new(alloc));
+        match stream.slice::<u64>() {
+            Ok(values) => assert_eq!(rt; values.as_slice(), [7, NAN].as_slice()),
+            Err(_) => assert!(rt; false),
+        }
+        Ok(())
+    }
+
+    #[test]
+    fn doubles_are_printed_as_they_were_read(rt: HostRuntime) -> Result<(), Fail> {
+        let alloc = rt.alloc();
+        let mut stream = Stream::new(alloc, TWO.as_slice(), Vec::new(alloc));
+        match stream.doubles() {
+            Ok(doubles) => assert!(rt; stream.print_doubles(&doubles).is_ok()),
+            Err(_) => assert!(rt; false),
+        }
+        assert_eq!(rt; stream.to.as_slice(), b" 7 18444492273895866369".as_slice());
+        Ok(())
+    }
+}
