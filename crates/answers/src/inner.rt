@@ -1,4 +1,4 @@
-// What a host is told: the number, and the rest through what it lends. Numbers and no `Result`, since C and JavaScript are told them.
+// What a host is told: the number, and the rest through what it lends.
 ghost use Rattle.std.specs.Prelude.{◌≡◌, ◌^◌, ◌<◌};
 ghost use Rattle.plan.specs.Structs.{answer_of};
 ghost use Rattle.theory.specs.Narrow.{Narrow};

@@ -31,7 +31,7 @@ pub fn periods_before(i: usize, len: usize) -> Periods
 }
 
 // The next place; behind the last the walk begins again.
-// Place and length are two numbers: docs/PROMISES.md names `next` and `reflect`, and a type that holds place < 2 len would ask more. So that 2 len fits is a clause, too.
+// Place and length are two numbers: docs/PROMISES.md names `next` and `reflect`, and a type that holds place < 2 len would ask more.
 pub fn next(place: usize, len: usize) -> usize
     requires place_bound { place < 2 * len }
     requires len_bound { 2 * len < 2 ^ 64 }

@@ -33,7 +33,6 @@ pub fn slide(w: i64, hi: i64, first: i64) -> i64
 
 // One pass of src into dst, every cell of it. What stands at -1 - j stands as far from the period's end as j does from its start.
 // `Passable` is a clause: it speaks of source, plan and room together, and its largest size is its prover's choice, so no field of one argument can hold it.
-// Nor have plan, src and dst a struct: from one pass to the next src and dst change places.
 #[tactic(auto, using(crate::specs::Course::reached_done))]
 pub fn pass(plan: Plan, src: &[i64], dst: &mut [i64])
     requires { Passable plan src.now (length dst.old) }

@@ -144,7 +144,7 @@ impl Plan {
         product
     }
 
-    // How far a sample is felt, K(r+1), or K·r where the edge weight is 0. Of a plan that is not accepted under any bound, 0: no `Option`, as of the divisor.
+    // How far a sample is felt, K(r+1), or K·r where the edge weight is 0. Of a plan that is not accepted under any bound, 0.
     pub fn reach(self) -> u64
         ensures { result ≡ plan_reach (stages_of self) }
     {

@@ -58,7 +58,7 @@ pub fn stretch(bytes: &[u8], start: usize, size: usize) -> &[u8]
     &rest[..size.min(rest.len())]
 }
 
-// Sample i of a stretch; 0 where it has none, and no `Option`, as `sample_at` has it.
+// Sample i of a stretch; 0 where it has none.
 pub fn sample(stretch: &[u8], i: usize) -> i32
     ensures { result ≡ M.sample_at stretch.now i }
 {

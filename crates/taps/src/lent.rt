@@ -1,4 +1,4 @@
-// The taps of a plan, in arrays of their own: room for them is asked of no caller, and a call has no heap for a `Vec`.
+// The taps of a plan, in arrays of their own: room for them is asked of no caller.
 ghost use Rattle.std.specs.Prelude.{ℤ, ◌≡◌, List};
 ghost use Rattle.std.proofs.Common.{Bor, MutBor};
 ghost use Rattle.meaning.specs.Bounds.{AcceptedPlan};
