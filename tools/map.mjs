@@ -91,7 +91,7 @@ function codeNames(path) {
 
 // What stands between a function's name and its body.
 function contractOf(lines, at) {
-  const end = lines.findIndex((line, n) => n >= at && /^\s*\{\}?$|\) (-> \S+ )?\{$/.test(line));
+  const end = lines.findIndex((line, n) => n >= at && /^\s*\{\}?$|\) (-> .+ )?\{$/.test(line));
   return lines.slice(at, end).join('\n');
 }
 

@@ -13,11 +13,16 @@ mod edits;
 // So many bytes are read at once.
 const MOST_HELD: usize = 65536;
 
+// As many bytes as the slices of a call take together.
+const MOST_LENT: usize = 4194304;
+
 // A proved loop has to end, and nothing says that the input does.
 const MOST_CALLS: u64 = 1000000;
 
 fn main(rt: HostRuntime) -> io::Result<()> {
     let alloc = rt.alloc();
+    // What is given back once is kept for blocks up to its size, where the system else would make each call's slices anew.
+    let _ = Vec::<u8>::with_capacity(alloc, MOST_LENT);
     let from = BufReader::with_capacity(alloc, MOST_HELD, rt.reader())?;
     let to = BufWriter::new(alloc, io::writer(&rt))?;
     let mut stream = Stream::new(alloc, from, to);

@@ -8,7 +8,7 @@
 --   ChangesIn xs L p d r a k left   the answer a, the count k and the results left of an edit by xs under the limit L
 --   Gainable xs N p d      room for every weight and every gain
 --   Writable               room for every result that is written
--- Laws: gain_fits, sum_fits, refused_is; length_gained_in, gained_before, gained_behind; moved_fits, moved_written (a turn of the walk that writes);
+-- Laws: gain_fits, sum_fits, refused_is; length_gained_in, gained_inside, gained_before, gained_behind; moved_fits, moved_written (a turn of the walk that writes);
 -- by_refused, by_writable, by_done (the two ends of an edit by taps).
 use Rattle.std.specs.Prelude.{ℕ, ◌*◌, ◌-◌, ◌≤◌, ◌<◌, ◌≡◌, Bool, cond, ◌||◌, List, [], ◌∷◌, eqb, length, ℤ, nat_abs, ◌+ℤ◌, ◌*ℤ◌, refl, Result, IsErrAnd}
 use Rattle.std.proofs.Math.Path.{sym}
@@ -91,7 +91,7 @@ module _ (xs : List ℤ) (p : ℕ) (d : ℤ) (r : List ℤ) (start end : ℕ) wh
   unfolding gained_in
   at_gained_in n l = at_list_of (length r) _ n l
 
-  gained_inside : (n : ℕ) → n < length r → start ≤ n → n < end → moved_in xs p d r n ≡ at (gained_in xs p d r start end) n
+  pub gained_inside : (n : ℕ) → n < length r → start ≤ n → n < end → moved_in xs p d r n ≡ at (gained_in xs p d r start end) n
   gained_inside n l h k = rw (at_gained_in n l, within_yes start end n h k)
 
   pub gained_before : (n : ℕ) → n < length r → n < start → at r n ≡ at (gained_in xs p d r start end) n

@@ -1,6 +1,6 @@
 -- The steps of an output, each over plain lists, of any shape.
 --   Over s M d   rows 1 to 8 do not apply to the shape s under the bound M, and d is its divisor
--- Laws: test_refused, test_rest (the rows in two parts, as code tests them); series_over, picture_over (what the first part leaves, of the divisor that code has), over_passed, over_size, over_small (what both leave);
+-- Laws: test_refused, test_rest (the rows in two parts, as code tests them); series_over, picture_over (what the first part leaves, of the divisor that code has), over_passed, over_within, over_size, over_small (what both leave);
 -- series_lengths; call_refused, call_done (the two ends of a call that leaves cells, with rows of its own).
 use Rattle.std.specs.Prelude.{ℕ, ◌*◌, ◌≤◌, ◌<◌, ◌≡◌, refl, Bool, false, ◌||◌, List, [], ◌∷◌, ◌++◌, map, length, ℤ, nat_abs}
 use Rattle.std.proofs.Common.{sym, ◌∙◌, ap₂, le_trans, mul-le-mul_right, arith}
@@ -67,14 +67,14 @@ module _ (s : Shape) {M d : ℕ} (r : List ℤ) (n : ℕ) (o : Over s M d) (e : 
   over_passed = record { results = refl; divides = o.divides; some = rw lent.count o.some; cells = lent.cells ∙ sym lent.count }
 
   module _ (i : ℕ) (l : i < length r) where
-    size : nat_abs (at r i) ≤ M * d
-    size = rw o.divides (lent.results i l)
+    pub over_within : nat_abs (at r i) ≤ M * d
+    over_within = rw o.divides (lent.results i l)
 
     pub over_size : nat_abs (at r i) ≤ max_bound * d
-    over_size = le_trans size (mul-le-mul_right d o.bound.1)
+    over_size = le_trans over_within (mul-le-mul_right d o.bound.1)
 
     pub over_small : nat_abs (at r i) ≤ max_result
-    over_small = le_trans size o.product
+    over_small = le_trans over_within o.product
 
 -- ---- the two ends of a call that leaves cells, with rows of its own behind those of every output
 module _ {A : Type 0} (own : List Row) (g : ℤ → ℕ → A) (s : Shape) (M : ℕ) (r : List ℤ) (cells : List A) where

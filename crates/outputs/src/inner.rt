@@ -9,14 +9,16 @@ ghost use Rattle.outputs.specs.Ready.{Passed};
 pub use crate::quotients::Quotients;
 use plan::{Plan, Raster, Refusal};
 
-// Row 12: the first result whose size is above the limit.
+// Row 12: the first result whose size is above the limit. No `position`, which reads a slice by an `Option` of a reference: the reason stands at `tap_at` of `taps`.
 pub fn results_allowed(limit: u64, results: &[i64]) -> Result<(), Refusal>
     ensures { answer_of result ≡ R.first_of (R.row_at 12 (length results.now) (λ i. R.above limit (at results.now i)) ∷ []) }
 {
-    match results.iter().position(|z| limit < z.unsigned_abs()) {
-        Some(position) => Err(Refusal::BadResult { position }),
-        None => Ok(()),
+    for (position, z) in results.iter().enumerate() {
+        if limit < z.unsigned_abs() {
+            return Err(Refusal::BadResult { position });
+        }
     }
+    Ok(())
 }
 
 // The results over the divisor, where a series may be put out. A summary has no cells, and gives the results' own length.

@@ -7,15 +7,18 @@
 --                      what it answered and left: the number returned, every number left through a reference, and every slice left
 --   host_doubles_in_one, host_whole_series_one, host_whole_picture_one, host_carry_series_one, host_carry_picture_one, host_doubles_series_one, host_doubles_picture_one, host_summary_series_one, host_summary_picture_one,
 --   host_results_to_doubles_one, host_doubles_to_results_one   two outcomes that the contract allows, of the same given, are the same, whatever the numbers lent to answer by held at entry
-use Rattle.std.specs.Prelude.{◌≡◌, List, ℤ, pos, Float}
+--   host_carry_series_zeros, host_carry_picture_zeros       refused, the last carry is plus zero
+--   host_summary_series_zeros, host_summary_picture_zeros   refused, lowest and highest are plus zero, and both indices 0
+use Rattle.std.specs.Prelude.{ℕ, ◌≡◌, ◌≢◌, List, ℤ, pos, Float}
 use Rattle.std.proofs.Common.{sym, ap, ◌∙◌}
 use Rattle.std.specs.Float.{binary64}
 use Rattle.std.specs.Float.Ieee.{of_int}
-use Rattle.meaning.specs.Refusals.{Answer}
-use Rattle.meaning.specs.Values.{Converted, Summary, doubles_in, whole_series_by, whole_picture_by, doubles_series, doubles_picture, summary_series, summary_picture}
-use Rattle.meaning.specs.Carry.{Carried, carry_series, carry_picture}
+use Rattle.meaning.specs.Refusals.{Answer, Shape}
+use Rattle.meaning.specs.Values.{Converted, Summary, plus_zero, doubles_in, whole_series_by, whole_picture_by, doubles_series, doubles_picture, summary_series, summary_picture}
+use Rattle.meaning.specs.Carry.{Carried, carried, carry_series, carry_picture}
 use Rattle.meaning.specs.Exact.{results_to_doubles, doubles_to_results}
 use Rattle.meaning.specs.Arguments.{count_of, stages_in}
+use Rattle.theory.specs.Refusals.{number_zero, if_done_refused}
 use Rattle.plan.specs.Contract.{Gives}
 use Rattle.answers.specs.Told.{said}
 use Rattle.dungdapple.specs.Told.{Carries}
@@ -42,6 +45,7 @@ use Rattle.dungdapple.proofs.dungdapple_results_to_doubles.Kinds as results-to-d
 use Rattle.dungdapple.proofs.dungdapple_doubles_to_results.Reads as doubles-to-results
 use Rattle.dungdapple.proofs.dungdapple_doubles_to_results.Kinds as doubles-to-results-kinds
 use Rattle.promises.specs.Hosts.{HostCall}
+use Rattle.promises.specs.Summaries.{summary_refused}
 
 abbrev pub DoublesInHost : Type 1
 DoublesInHost = HostCall doubles-in-kinds.ps doubles-in-kinds.r doubles-in.Learnt
@@ -85,6 +89,10 @@ carried_out o = (o.answer, of_int binary64 (pos o.carry), o.cells)
 
 carried_is : {o : Carried} {a : Answer} {x : Float} {l : List ℤ} → Carries o a x l → (a, x, l) ≡ carried_out o
 carried_is g = rw (g.answer, g.carry, g.cells)
+
+carried_zero : (s : Shape) (M : ℕ) (r cells : List ℤ) {a : Answer} {x : Float} {l : List ℤ} → Carries (carried s M r cells) a x l → a.number ≢ 0 → x ≡ plus_zero
+unfolding carried of_int
+carried_zero s M r cells g n = g.carry ∙ ap (λ (k : ℕ). of_int binary64 (pos k)) (if_done_refused _ _ _ (λ z. n (number_zero (sym g.answer) z)))
 
 -- ---- doubles in: bound, doubles, samples
 abbrev SamplesGiven : Type 0
@@ -151,6 +159,9 @@ carry_series_left c =
 pub host_carry_series_one : (c d : CarrySeriesHost) → carry_series_given c ≡ carry_series_given d → carry_series_left c ≡ carry_series_left d
 host_carry_series_one c d e = carried_is c.learnt ∙ ap (λ (x : CarrySeriesGiven). carried_out (carry_series (stages_in x.0) (count_of x.1) x.2 x.3)) e ∙ sym (carried_is d.learnt)
 
+pub host_carry_series_zeros : (c : CarrySeriesHost) → c.answered ≢ 0 → (carry_series_left c).1 ≡ plus_zero
+host_carry_series_zeros c = carried_zero _ _ _ _ c.learnt
+
 abbrev CarryPictureGiven : Type 0
 CarryPictureGiven = List Float × List Float × Float × Float × Float × List ℤ × List ℤ
 
@@ -167,6 +178,9 @@ carry_picture_left c =
 pub host_carry_picture_one : (c d : CarryPictureHost) → carry_picture_given c ≡ carry_picture_given d → carry_picture_left c ≡ carry_picture_left d
 host_carry_picture_one c d e =
     carried_is c.learnt ∙ ap (λ (x : CarryPictureGiven). carried_out (carry_picture (stages_in x.0) (stages_in x.1) (count_of x.2) (count_of x.3) (count_of x.4) x.5 x.6)) e ∙ sym (carried_is d.learnt)
+
+pub host_carry_picture_zeros : (c : CarryPictureHost) → c.answered ≢ 0 → (carry_picture_left c).1 ≡ plus_zero
+host_carry_picture_zeros c = carried_zero _ _ _ _ c.learnt
 
 -- ---- doubles out: given the same
 abbrev DoublesSeriesGiven : Type 0
@@ -215,6 +229,9 @@ summary_series_left c =
 pub host_summary_series_one : (c d : SummarySeriesHost) → summary_series_given c ≡ summary_series_given d → summary_series_left c ≡ summary_series_left d
 host_summary_series_one c d e = c.learnt ∙ ap (λ (x : SummarySeriesGiven). summary_series (stages_in x.0) (count_of x.1) x.2) e ∙ sym d.learnt
 
+pub host_summary_series_zeros : (c : SummarySeriesHost) → c.answered ≢ 0 → let s = summary_series_left c in (s.lowest ≡ plus_zero) × (s.highest ≡ plus_zero) × (s.lowest_at ≡ 0) × (s.highest_at ≡ 0)
+host_summary_series_zeros c = summary_refused _ _ _ c.learnt
+
 abbrev SummaryPictureGiven : Type 0
 SummaryPictureGiven = List Float × List Float × Float × Float × Float × List ℤ
 
@@ -230,6 +247,9 @@ summary_picture_left c =
 
 pub host_summary_picture_one : (c d : SummaryPictureHost) → summary_picture_given c ≡ summary_picture_given d → summary_picture_left c ≡ summary_picture_left d
 host_summary_picture_one c d e = c.learnt ∙ ap (λ (x : SummaryPictureGiven). summary_picture (stages_in x.0) (stages_in x.1) (count_of x.2) (count_of x.3) (count_of x.4) x.5) e ∙ sym d.learnt
+
+pub host_summary_picture_zeros : (c : SummaryPictureHost) → c.answered ≢ 0 → let s = summary_picture_left c in (s.lowest ≡ plus_zero) × (s.highest ≡ plus_zero) × (s.lowest_at ≡ 0) × (s.highest_at ≡ 0)
+host_summary_picture_zeros c = summary_refused _ _ _ c.learnt
 
 -- ---- results as doubles: results, cells
 abbrev ExactGiven : Type 0

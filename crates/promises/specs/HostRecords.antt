@@ -3,16 +3,19 @@
 --   plan_for_given, divisor_given, reach_given, read_record_given, record_samples_given, write_record_given   what it was given, in the order of its parameters, but for the numbers lent to answer by
 --   plan_for_left, read_record_left, write_record_left   what it answered and left: the number returned, every number left through a reference, and every slice left;  record_samples_left  the samples left
 --   host_plan_for_one, host_divisor_one, host_reach_one, host_read_record_one, host_record_samples_one, host_write_record_one   two outcomes that the contract allows, of the same given, are the same, whatever the numbers lent to answer by held at entry
-use Rattle.std.specs.Prelude.{ℕ, ◌≡◌, List, length, ℤ, pos, Float}
+--   host_plan_for_zeros    refused, radius and edge weight are 0
+--   host_read_record_zeros refused, the number is 14, the five numbers are 0 and the stretch is empty
+use Rattle.std.specs.Prelude.{ℕ, ◌≡◌, ◌≢◌, List, length, ℤ, pos, Float}
 use Rattle.std.proofs.Common.{sym, ap, ◌∙◌}
 use Rattle.std.specs.Float.{binary64}
 use Rattle.std.specs.Float.Ieee.{of_int}
 use Rattle.meaning.specs.Smoothing.{list_of}
 use Rattle.meaning.specs.Refusals.{Answer, plan_divisor, plan_reach}
 use Rattle.meaning.specs.Planner.{Planned, plan_for}
-use Rattle.meaning.specs.Record.{Job, Written, sample_at, read_record}
+use Rattle.meaning.specs.Record.{Job, Written, not_well_formed, sample_at, read_record}
 use Rattle.meaning.specs.HostRecord.{write_record_in}
 use Rattle.meaning.specs.Arguments.{count_of, plan_in, stages_in}
+use Rattle.theory.specs.Records.{read_refused}
 use Rattle.plan.specs.Structs.{plain}
 use Rattle.writer.specs.Contract.{Writes}
 use Rattle.dungdapple.proofs.dungdapple_plan_for.Reads as plan-for
@@ -28,6 +31,7 @@ use Rattle.dungdapple.proofs.dungdapple_record_samples.Kinds as record-samples-k
 use Rattle.dungdapple.proofs.dungdapple_write_record.Reads as write-record
 use Rattle.dungdapple.proofs.dungdapple_write_record.Kinds as write-record-kinds
 use Rattle.promises.specs.Hosts.{HostCall}
+use Rattle.promises.specs.Planner.{planner_refused}
 
 abbrev pub PlanForHost : Type 1
 PlanForHost = HostCall plan-for-kinds.ps plan-for-kinds.r plan-for.Learnt
@@ -59,6 +63,9 @@ plan_for_left c = record { answer = plain c.answered; radius = c.left.1.1.1.0.no
 
 pub host_plan_for_one : (c d : PlanForHost) → plan_for_given c ≡ plan_for_given d → plan_for_left c ≡ plan_for_left d
 host_plan_for_one c d e = c.learnt ∙ ap (λ (x : PlannerGiven). plan_for (count_of x.0) (count_of x.1) (count_of x.2)) e ∙ sym d.learnt
+
+pub host_plan_for_zeros : (c : PlanForHost) → c.answered ≢ 0 → ((plan_for_left c).radius ≡ 0) × ((plan_for_left c).edge ≡ 0)
+host_plan_for_zeros c = planner_refused _ _ _ c.learnt
 
 -- ---- a plan's own numbers
 abbrev pub divisor_given : DivisorHost → List Float
@@ -93,6 +100,9 @@ read_record_left c =
 
 pub host_read_record_one : (c d : ReadRecordHost) → read_record_given c ≡ read_record_given d → read_record_left c ≡ read_record_left d
 host_read_record_one c d e = c.learnt ∙ ap read_record e ∙ sym d.learnt
+
+pub host_read_record_zeros : (c : ReadRecordHost) → c.answered ≢ 0 → read_record_left c ≡ not_well_formed
+host_read_record_zeros c n = c.learnt ∙ read_refused _ (λ z. n (ap (λ (j : Job). j.answer.number) c.learnt ∙ z))
 
 abbrev StretchGiven : Type 0
 StretchGiven = List ℕ × List ℤ

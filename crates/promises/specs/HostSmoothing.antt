@@ -7,6 +7,7 @@
 --   host_smooth_series_one, host_smooth_picture_one, host_edit_series_one, host_point_one   two outcomes that the contract allows, of the same given, are the same, whatever the numbers lent to answer by held at entry
 --   host_smooth_series_is, host_smooth_picture_is   it answers and leaves what any call of `series::smooth_series`, and of `picture::smooth_picture`, does that is given what its doubles are taken as
 --   host_edit_is, host_point_is   what any call of `edit::edit_series`, and of `point::point`, does that is given the same, and lent as much work as it asks, whatever that work holds
+--   host_edit_series_zeros, host_point_zeros   refused, an edit counts 0 results changed, and a point's value is plus zero
 --   host_plan_refused  smoothing a series: a plan of another number of doubles than four is refused with 1
 --   host_bound_refused and a bound that is no whole number of size up to the largest result, as a fraction or a NaN, with 5, where the plan is allowed
 use Rattle.std.specs.Prelude.{ℕ, ◌≡◌, ◌≢◌, true, List, [], ◌∷◌, length, ℤ, pos, Float}
@@ -18,9 +19,11 @@ use Rattle.meaning.specs.Extension.{fold}
 use Rattle.meaning.specs.Kernel.{Stage}
 use Rattle.meaning.specs.Refusals.{Answer, outside, plan_rows, size_rows}
 use Rattle.meaning.specs.Calls.{Smoothed, Edited, Pointed, smooth_rows, smoothed, smooth_series, smooth_picture, edit_room, edit_series, point, asked}
+use Rattle.meaning.specs.Values.{plus_zero}
 use Rattle.meaning.specs.Arguments.{whole_of, unsigned, count_of, PlanNumbers, stages, plan_in, stages_in}
 use Rattle.meaning.specs.Bounds.{AllowedPlan, WholeDouble}
-use Rattle.theory.specs.Refusals.{first_on, off_done, refused_first, done_rest, plan_numbered}
+use Rattle.theory.specs.Refusals.{first_on, off_done, refused_first, done_rest, plan_numbered, number_zero, if_done_refused}
+use Rattle.theory.specs.Stored.{edit_refused}
 use Rattle.theory.specs.Accepted.{allowed_plan, plan_rows_lem}
 use Rattle.theory.specs.Arguments.{whole_other, plan_other, refused_by_passes, refused_by_bound}
 use Rattle.plan.specs.Structs.{answer_of}
@@ -173,6 +176,9 @@ asked_by p f = asked (stages p) (length f)
 pub host_edit_series_one : (c d : EditSeriesHost) → edit_series_given c ≡ edit_series_given d → edit_series_left c ≡ edit_series_left d
 host_edit_series_one c d e = edit_is c.learnt ∙ ap (λ (x : EditGiven). edit_outcome (edit_taken x) (asked_by (plan_in x.0) x.4)) e ∙ sym (edit_is d.learnt)
 
+pub host_edit_series_zeros : (c : EditSeriesHost) → c.answered ≢ 0 → (edit_series_left c).1 ≡ 0
+host_edit_series_zeros c n = c.learnt.count ∙ (edit_refused _ _ _ _ _ _ _ _ (λ z. n (number_zero (sym c.learnt.answer) z))).0
+
 -- only the length of work plays a part
 asked_length : (ss : List Stage) (N : ℕ) → length (asked ss N) ≡ edit_room ss N
 unfolding asked
@@ -221,6 +227,10 @@ point_outcome x w = valued (point fold (stages x.0) x.1 x.2 x.3 w)
 
 pub host_point_one : (c d : PointHost) → point_given c ≡ point_given d → point_left c ≡ point_left d
 host_point_one c d e = point_is c.learnt ∙ ap (λ (x : PointGiven). point_outcome (taken x) (asked_by (plan_in x.0) x.3)) e ∙ sym (point_is d.learnt)
+
+pub host_point_zeros : (c : PointHost) → c.answered ≢ 0 → (point_left c).1 ≡ plus_zero
+unfolding point
+host_point_zeros c n = c.learnt.value ∙ if_done_refused _ _ _ (λ z. n (number_zero (sym c.learnt.answer) z))
 
 point_work : (x : PointTaken) (w : List ℤ) → length w ≡ edit_room (stages x.0) (length x.3) → point_outcome x (asked_by x.0 x.3) ≡ point_outcome x w
 unfolding point

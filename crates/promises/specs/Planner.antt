@@ -13,7 +13,7 @@
 --   planner_lowest     the number is 0, or that of a row that applies, and then the lowest of those
 --   planner_done, planner_allowed   it is 0 exactly where no row applies, and exactly where the bounds hold
 --   planner_never_15   it is never 15
---   planner_zeros      where it is refused, radius and edge weight are 0
+--   planner_zeros      where it is refused, radius and edge weight are 0;  planner_refused  so they are in any answer that is the outcome, an export's too
 --   planner_radius, planner_edge   where it is done, the original radius is the largest that the rule allows, and the edge weight there the nearest
 --   planner_below, planner_full    these are answered, where that weight is below b; where it is b, one radius more and edge weight 0
 --   planner_taps, planner_kernel   the taps answered are the original ones at every offset, and so are the K-fold kernel and its divisor
@@ -33,7 +33,7 @@ use Rattle.meaning.specs.Refusals.{Row, first_of, Applies}
 use Rattle.meaning.specs.Planner as outcomes
 use Rattle.meaning.specs.Planner.{edge_over, edge_under, original_for, wider, stage_for, planner_rows, plan_for}
 use Rattle.meaning.specs.Bounds.{AllowedPlan, AllowedSigma}
-use Rattle.theory.specs.Refusals.{number_lowest, number_none, if_done_done, if_done_refused}
+use Rattle.theory.specs.Refusals.{number_zero, number_lowest, number_none, if_done_done, if_done_refused}
 use Rattle.theory.specs.SameTaps.{kernel_same, divisor_same}
 use Rattle.theory.specs.Survey.{surveyed, survey_exact}
 use Rattle.theory.specs.Planner as rule
@@ -104,6 +104,12 @@ pub record NearestEdge (s Q b r a : ℕ) : Type 0 where
   pub most : a ≤ b
 
 -- ---- one call
+pub planner_refused : (s K b : ℕ) {x : outcomes.Planned} → x ≡ plan_for s K b → x.answer.number ≢ 0 → (x.radius ≡ 0) × (x.edge ≡ 0)
+unfolding plan_for
+planner_refused s K b e h =
+    let n : (first_of (planner_rows s K b)).number ≢ 0 = λ z. h (number_zero (ap (λ (p : outcomes.Planned). p.answer) (sym e)) z) in
+    (ap (λ (p : outcomes.Planned). p.radius) e ∙ if_done_refused _ _ _ n, ap (λ (p : outcomes.Planned). p.edge) e ∙ if_done_refused _ _ _ n)
+
 same_stage : (t : Stage) {r b a : ℕ} → r ≡ t.radius → b ≡ t.inner → a ≡ t.edge → record { radius = r; inner = b; edge = a } ≡ t
 same_stage t f g h = rw (f, g, h)
 
@@ -128,10 +134,7 @@ module _ (c : PlannerCall) where
   planner_never_15 e = rule.planner_never_15 _ _ _ (sym number_is ∙ e)
 
   pub planner_zeros : number c ≢ 0 → (radius c ≡ 0) × (edge c ≡ 0)
-  unfolding plan_for
-  planner_zeros h =
-      let n : (first_of (rows c)).number ≢ 0 = λ e. h (number_is ∙ e) in
-      (ap (λ (p : outcomes.Planned). p.radius) whole ∙ if_done_refused _ _ _ n, ap (λ (p : outcomes.Planned). p.edge) whole ∙ if_done_refused _ _ _ n)
+  planner_zeros = planner_refused _ _ _ whole
 
   -- a call that is done
   module _ (e : number c ≡ 0) where

@@ -8,14 +8,29 @@
 --   any_passed    where no row answers 0, an answer of 0 is `plain 0`
 --   any_refused   such an answer is that of the refusal that it tells
 --   any_row       so is the answer of such rows, where it is not 0
-use Rattle.std.specs.Prelude.{ℕ, ◌≡◌, refl, ◌⊎◌, Bool, true, false, cond, ◌&&◌, ◌||◌, List, [], ◌∷◌, T, eqb, ⊤}
+-- Of the rows of every call, so that any answer of theirs but 0 is that of the refusal that it tells:
+--   told_smooth_rows, told_edit_rows, told_point_rows, told_double_rows, told_output_rows, told_exact_rows, told_back_rows, told_field_rows, told_write_rows, told_own_rows   the rows that `meaning` calls so are AllTold
+--   told_converted_rows, told_whole_rows, told_write_in_rows   so are an output's with its own behind them, whole output's with row 21, and the writer's behind those of a host's fields
+--   told_planner, told_read   any answer of the planner but 0 is such a one, though no refusal has its row 15, and so is any of the reader's
+use Rattle.std.specs.Prelude.{ℕ, ◌≡◌, refl, ◌⊎◌, Bool, true, false, cond, ◌&&◌, ◌||◌, List, [], ◌∷◌, ◌++◌, ◌*◌, ltb, ℤ, Float, T, eqb, ⊤}
 use Rattle.std.proofs.Common.{sym, ap, ◌∙◌, inl, inr, ⊎_elim, eqb-true}
 use contract.Lifetimes.{Lfts}
 use denote.Triple.Clauses.{AtExit}
 use borrow.Fn.Kinds.{Dens, res_t, ended_of}
 use Rattle.plan.specs.declared.Refusal.{Refusal}
-use Rattle.meaning.specs.Refusals.{Answer, Row, first_of}
-use Rattle.theory.specs.Refusals.{Numbered, done_off, off_done, number_zero}
+use Rattle.meaning.specs.Limits.{least, max_passes, max_radius, max_inner, max_sigma}
+use Rattle.meaning.specs.Kernel.{Stage}
+use Rattle.meaning.specs.Refusals.{Answer, Row, Shape, ◌when◌, first_of, outside, row_at, plan_rows, size_rows, own_rows}
+use Rattle.meaning.specs.Calls.{smooth_rows, edit_rows, point_rows}
+use Rattle.meaning.specs.Values.{double_rows, output_rows, mode_rows}
+use Rattle.meaning.specs.Exact.{length_rows, exact_rows, back_rows}
+use Rattle.meaning.specs.Planner.{stage_for, planner_rows}
+use Rattle.meaning.specs.Arguments.{PlanNumbers}
+use Rattle.meaning.specs.Record.{write_rows, read_record}
+use Rattle.meaning.specs.HostRecord.{field_rows}
+use Rattle.theory.specs.Refusals.{Numbered, done_off, off_done, number_zero, first_either}
+use Rattle.theory.specs.Planner.{planner_never_15}
+use Rattle.theory.specs.Records.{read_refused}
 use Rattle.plan.specs.Structs.{plain, refused, refusal_of}
 use Rattle.plan.proofs.Refusal.number.Reads as number-of
 use Rattle.plan.proofs.Refusal.number.Kinds as number-kinds
@@ -155,3 +170,82 @@ told_first (row ∷ rows) t n =
 
 pub any_row : (rows : List Row) → AllTold rows → {a : Answer} → a ≡ first_of rows → (a.number ≡ 0 → ⊥) → refused (refusal_of a) ≡ first_of rows
 any_row rows t {a} e n = any_refused a (rw e (told_first rows t (λ z. n (number_zero (sym e) z)))) ∙ e
+
+-- ---- the rows of every call
+pub told_own_rows : (ss : List Stage) → AllTold (own_rows ss)
+unfolding own_rows plan_rows
+told_own_rows ss = tt
+
+pub told_smooth_rows : (s : Shape) (M : ℕ) (f : List ℤ) (nr nw : ℕ) → AllTold (smooth_rows s M f nr nw)
+unfolding smooth_rows plan_rows size_rows row_at
+told_smooth_rows s M f nr nw = tt
+
+pub told_edit_rows : (ss : List Stage) (M p : ℕ) (v : ℤ) (f r new : List ℤ) (nw : ℕ) → AllTold (edit_rows ss M p v f r new nw)
+unfolding edit_rows plan_rows size_rows row_at
+told_edit_rows ss M p v f r new nw = tt
+
+pub told_point_rows : (ss : List Stage) (M n : ℕ) (f : List ℤ) (nw : ℕ) → AllTold (point_rows ss M n f nw)
+unfolding point_rows plan_rows size_rows row_at
+told_point_rows ss M n f nw = tt
+
+pub told_double_rows : (M : ℕ) (xs : List Float) (n : ℕ) → AllTold (double_rows M xs n)
+unfolding double_rows row_at
+told_double_rows M xs n = tt
+
+module _ (s : Shape) (M : ℕ) (r : List ℤ) (n : ℕ) where
+  pub told_output_rows : AllTold (output_rows s M r n)
+  unfolding output_rows plan_rows size_rows row_at
+  told_output_rows = tt
+
+  pub told_converted_rows : (own : List Row) → AllTold own → AllTold (output_rows s M r n ++ own)
+  unfolding output_rows plan_rows size_rows row_at
+  told_converted_rows own t = t
+
+  pub told_whole_rows : (mode : ℕ) → AllTold (output_rows s M r n ++ mode_rows mode)
+  unfolding mode_rows
+  told_whole_rows mode = told_converted_rows (mode_rows mode) tt
+
+pub told_exact_rows : (r : List ℤ) (n : ℕ) → AllTold (exact_rows r n)
+unfolding exact_rows length_rows row_at
+told_exact_rows r n = tt
+
+pub told_back_rows : (xs : List Float) (n : ℕ) → AllTold (back_rows xs n)
+unfolding back_rows length_rows row_at
+told_back_rows xs n = tt
+
+pub told_write_rows : (N room asked : ℕ) → AllTold (write_rows N room asked)
+told_write_rows N room asked = tt
+
+pub told_field_rows : (p : PlanNumbers) (M : ℕ) → AllTold (field_rows p M)
+unfolding field_rows
+told_field_rows p M = tt
+
+pub told_write_in_rows : (p : PlanNumbers) (M N room asked : ℕ) → AllTold (field_rows p M ++ write_rows N room asked)
+unfolding field_rows
+told_write_in_rows p M N room asked = tt
+
+one_answers : (row : Row) {a : Answer} → a ≡ first_of (row ∷ []) → (a.number ≡ 0 → ⊥) → a.number ≡ row.answer.number
+unfolding first_of
+one_answers row {a} e n = go row.applies e
+  where
+    go : (x : Bool) → a ≡ cond x row.answer (first_of []) → a.number ≡ row.answer.number
+    go true e = ap (λ (x : Answer). x.number) e
+    go false e = absurd (n (ap (λ (x : Answer). x.number) e))
+
+-- the planner's are not AllTold, but no answer has the number of its last
+module _ (s K b : ℕ) where
+  abbrev told_front : List Row
+  told_front = (1 when outside least max_passes K) ∷ (3 when outside least max_inner b) ∷ (13 when outside least max_sigma s) ∷ []
+
+  abbrev last : Row
+  last = 15 when ltb max_radius (stage_for s (10000 * K) b).radius
+
+  pub told_planner : {a : Answer} → a ≡ first_of (planner_rows s K b) → (a.number ≡ 0 → ⊥) → refused (refusal_of a) ≡ first_of (planner_rows s K b)
+  unfolding planner_rows
+  told_planner {a} e n = ⊎_elim
+      (λ f. any_row told_front tt f n ∙ sym f ∙ e)
+      (λ p. absurd (planner_never_15 s K b (ap (λ (x : Answer). x.number) (sym e) ∙ one_answers last p.1 n)))
+      (first_either told_front (last ∷ []) tt e)
+
+pub told_read : (s : List ℕ) → ((read_record s).answer.number ≡ 0 → ⊥) → refused (refusal_of (read_record s).answer) ≡ (read_record s).answer
+told_read s n = rw (read_refused s n) refl

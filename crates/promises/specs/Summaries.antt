@@ -7,7 +7,7 @@
 --   summary_number     the number is 0, or that of a row that applies, and then the lowest of those
 --   summary_done       it is 0 exactly where no row applies
 --   summary_place_12, summary_place_other   at 12 the place is that of the first result above M times the divisor, else 0
---   summary_zeros      refused, both doubles are plus zero and both indices 0
+--   summary_zeros      refused, both doubles are plus zero and both indices 0;  summary_refused  so they are in any answer that is the outcome, an export's too
 --   summary_lowest, summary_highest   done, the index is the first of a result that none is below, or above, and the double is that result over the divisor
 --   summary_series_lem, summary_picture_lem   the number is 0 exactly where the bounds of a series hold, and of a picture
 --   summary_series_allowed, summary_picture_allowed   so a call is done exactly where they hold
@@ -82,6 +82,16 @@ module _ (s : Shape) (M : ℕ) (r : List ℤ) {x : meant.Summary} (e : x ≡ sum
   unfolding summary
   number_of = ap (λ (y : meant.Summary). y.answer.number) e
 
+  pub summary_refused : x.answer.number ≢ 0 → (x.lowest ≡ plus_zero) × (x.highest ≡ plus_zero) × (x.lowest_at ≡ 0) × (x.highest_at ≡ 0)
+  unfolding summary
+  summary_refused h =
+      let n : (first_of (output_rows s M r (length r))).number ≢ 0 = λ z. h (number_of ∙ z) in (
+        ap (λ (y : meant.Summary). y.lowest) e ∙ if_done_refused _ _ _ n,
+        ap (λ (y : meant.Summary). y.highest) e ∙ if_done_refused _ _ _ n,
+        ap (λ (y : meant.Summary). y.lowest_at) e ∙ if_done_refused _ _ _ n,
+        ap (λ (y : meant.Summary). y.highest_at) e ∙ if_done_refused _ _ _ n,
+      )
+
 pub summary_series_lem : (ss : List Stage) (M : ℕ) (r : List ℤ) {x : meant.Summary} → x ≡ summary_series ss M r → Exactly (x.answer.number ≡ 0) (AllowedSeriesOut ss M r (length r))
 summary_series_lem ss M r e =
     let is = number_of (series_of ss (length r)) M r e in
@@ -146,14 +156,7 @@ module _ (s : Summing) where
   summary_place_other = tested.output_no_position _ _ _ _ answer_is
 
   pub summary_zeros : number ≢ 0 → (s.answered.lowest ≡ plus_zero) × (s.answered.highest ≡ plus_zero) × (s.answered.lowest_at ≡ 0) × (s.answered.highest_at ≡ 0)
-  unfolding summary
-  summary_zeros h =
-      let n : (first_of (rows s)).number ≢ 0 = λ e. h (number_is ∙ e) in (
-        ap (λ (y : meant.Summary). y.lowest) s.is ∙ if_done_refused _ _ _ n,
-        ap (λ (y : meant.Summary). y.highest) s.is ∙ if_done_refused _ _ _ n,
-        ap (λ (y : meant.Summary). y.lowest_at) s.is ∙ if_done_refused _ _ _ n,
-        ap (λ (y : meant.Summary). y.highest_at) s.is ∙ if_done_refused _ _ _ n,
-      )
+  summary_zeros = summary_refused s.shape s.bound s.results s.is
 
   -- one that is done
   module _ (e : number ≡ 0) where

@@ -14,12 +14,24 @@ mod reading;
 pub fn read_record(bytes: &[u8]) -> Result<Job, Refusal>
     ensures { job_of result ≡ M.read_record bytes.now }
 {
-    let (radius, rest) = reading::field::<2>(bytes, 1).ok_or(Refusal::Record)?;
-    let (inner, rest) = reading::field::<1>(rest, 2).ok_or(Refusal::Record)?;
-    let (edge, rest) = reading::field::<1>(rest, 3).ok_or(Refusal::Record)?;
-    let (passes, rest) = reading::field::<1>(rest, 4).ok_or(Refusal::Record)?;
-    let (bound, rest) = reading::field::<4>(rest, 5).ok_or(Refusal::Record)?;
-    let samples = reading::samples_field(rest).ok_or(Refusal::Record)?;
+    let Some((radius, rest)) = reading::field::<2>(bytes, 1) else {
+        return Err(Refusal::Record);
+    };
+    let Some((inner, rest)) = reading::field::<1>(rest, 2) else {
+        return Err(Refusal::Record);
+    };
+    let Some((edge, rest)) = reading::field::<1>(rest, 3) else {
+        return Err(Refusal::Record);
+    };
+    let Some((passes, rest)) = reading::field::<1>(rest, 4) else {
+        return Err(Refusal::Record);
+    };
+    let Some((bound, rest)) = reading::field::<4>(rest, 5) else {
+        return Err(Refusal::Record);
+    };
+    let Some(samples) = reading::samples_field(rest) else {
+        return Err(Refusal::Record);
+    };
     Ok(Job {
         fields: Fields {
             radius: u16::from_be_bytes(*radius),

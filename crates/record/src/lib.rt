@@ -58,13 +58,14 @@ pub fn stretch(bytes: &[u8], start: usize, size: usize) -> &[u8]
     &rest[..size.min(rest.len())]
 }
 
-// Sample i of a stretch; 0 where it has none.
+// Sample i of a stretch; 0 where it has none. No `get`: the reason stands at `tap_at` of `taps`.
 pub fn sample(stretch: &[u8], i: usize) -> i32
     ensures { result ≡ M.sample_at stretch.now i }
 {
     let (samples, _) = stretch.as_chunks::<4>();
-    match samples.get(i) {
-        Some(&four) => encoding::inner::signed(four),
-        None => 0,
+    if i < samples.len() {
+        encoding::inner::signed(samples[i])
+    } else {
+        0
     }
 }

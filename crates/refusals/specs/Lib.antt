@@ -2,6 +2,8 @@
 --   Sides        the cells of a picture
 --   Span         what lies within reach of a place
 --   Acceptable   samples that pass row 11
+--   Counted      the answer of so many bad samples
 pub mod Sides
 pub mod Span
 pub mod Acceptable
+pub mod Counted

@@ -41,18 +41,21 @@ pub fn counted<F: Fn(usize) -> bool>(span: Span, bad: F) -> Result<(), Refusal>
     requires { (i : ℕ) → span.start ≤ i → i < span.end → F.pre bad i }
     ensures { (N : ℕ) (t : ℕ → Bool) → span.end ≤ N → ((i : ℕ) (r : Bool) → span.start ≤ i → i < span.end → F.post bad i r → r ≡ t i) → answer_of result ≡ R.first_of (R.row_at 11 N (picked span.start span.end t) ∷ []) }
 {
-    let mut answer = Ok(());
+    let mut first = span.end;
     let mut count: usize = 0;
     for i in (span.start..span.end).rev() {
         if bad(i) {
+            first = i;
             count += 1;
-            answer = Err(Refusal::BadSample {
-                position: i,
-                bad: count,
-            });
         }
     }
-    answer
+    if count == 0 {
+        return Ok(());
+    }
+    Err(Refusal::BadSample {
+        position: first,
+        bad: count,
+    })
 }
 
 // Row 11, with the bad samples counted. The answer would be right where none is bad, too: that it asks for one keeps a call from counting where it need not.

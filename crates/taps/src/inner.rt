@@ -31,11 +31,11 @@ pub fn tap_count(plan: Plan) -> usize
     plan.reach() as usize + 1
 }
 
-// The tap at i, 0 past the last.
+// The tap at i, 0 past the last. No `get`: an `Option` of a reference lies otherwise where a pointer has 32 bits.
 fn tap_at(taps: &[i64], i: usize) -> i64
     ensures { result ≡ at taps.now i }
 {
-    taps.get(i).copied().unwrap_or(0)
+    if i < taps.len() { taps[i] } else { 0 }
 }
 
 // The window around the centre: on either side stand the same taps.

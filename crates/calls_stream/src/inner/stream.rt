@@ -7,7 +7,7 @@ ghost use Rattle.plan.specs.Structs.{answer_of};
 ghost use Rattle.calls_stream.specs.Checksum.{checksum_of};
 ghost use Rattle.calls_stream.specs.Doubles.{bits_of};
 ghost use Rattle.calls_stream.specs.Ends.{EndsWell};
-ghost use Rattle.calls_stream.specs.Words.{Takes, TakesAll, plan_words, raster_words};
+ghost use Rattle.calls_stream.specs.Words.{Takes, TakesAll, Reads, plan_words, raster_words};
 
 use crate::inner::checksum::checksum;
 use crate::inner::element::Element;
@@ -88,14 +88,21 @@ impl<R: Read, W: Write> Stream<R, W> {
         Stream { alloc, from, to }
     }
 
-    pub fn word(&mut self) -> Result<u64, Ended>
-        ensures { IfOk result (λ n. Takes (R.remaining self.old.from) (R.remaining self.new.from) n) }
+    // The next word, where one is left. An `Option`, which a register holds: what is read of a long slice goes through here.
+    fn next(&mut self) -> Option<u64>
+        ensures { IfSome result (λ n. Takes (R.remaining self.old.from) (R.remaining self.new.from) n) }
     {
         let mut bytes = [0u8; 8];
         if self.from.read_exact(&mut bytes).is_err() {
-            return Err(Ended::Closed);
+            return None;
         }
-        Ok(u64::from_be_bytes(bytes))
+        Some(u64::from_be_bytes(bytes))
+    }
+
+    pub fn word(&mut self) -> Result<u64, Ended>
+        ensures { IfOk result (λ n. Takes (R.remaining self.old.from) (R.remaining self.new.from) n) }
+    {
+        self.next().ok_or(Ended::Closed)
     }
 
     pub fn element<T: Element>(&mut self) -> Result<T, Ended>
@@ -133,18 +140,23 @@ impl<R: Read, W: Write> Stream<R, W> {
 
     // A slice: how many elements it has, and each of them.
     pub fn slice<T: Element>(&mut self) -> Result<Vec<T>, Ended>
-        ensures { IfOk result (λ v. vec_len v ≤ MOST_ELEMENTS) }
+        ensures most { IfOk result (λ v. vec_len v ≤ MOST_ELEMENTS) }
+        ensures read { IfOk result (λ v. Reads T.read (R.remaining self.old.from) (R.remaining self.new.from) v.items) }
     {
         let count = self.count()?;
         let mut values = Vec::with_capacity(self.alloc, count)?;
         for _ in 0..count {
-            values.push(self.element()?)?;
+            let Some(word) = self.next() else {
+                return Err(Ended::Closed);
+            };
+            values.push(T::from_word(word))?;
         }
         Ok(values)
     }
 
     fn count(&mut self) -> Result<usize, Ended>
-        ensures { IfOk result (λ n. n ≤ MOST_ELEMENTS) }
+        ensures most { IfOk result (λ n. n ≤ MOST_ELEMENTS) }
+        ensures read { IfOk result (λ n. Takes (R.remaining self.old.from) (R.remaining self.new.from) n) }
     {
         let count = self.word()?;
         if count > MOST_ELEMENTS {

@@ -14,16 +14,15 @@ chunk_at (suc k) (suc i) s h =
     let place : 4 * suc i ≡ 4 + 4 * i = omega arith in
     rw (place, ← drop-drop (4 * i) 4 s) (chunk_at k i (drop 4 s) (omega arith))
 
-pub returns-in-Some : goal.returns-in-Some
-returns-in-Some c =
+pub returns-then-i-samples : goal.returns-then-i-samples
+returns-then-i-samples c =
     let s = c.args.stretch.now in
     let i = c.args.i in
     let chunks = c.as_chunks.ensures in
-    let found = c.in-Some.ensures.lookup in
-    let within : i < length s / 4 = omega (arith, found.3.0, chunks.front_len) in
+    let within : i < length s / 4 = omega (arith, c.if-i-samples.true, ap length chunks.front, chunks.front_len) in
     to_z-of_z {w = w32} (sfits_of c.signed.type_inv) ∙ c.signed.ensures
-    ∙ ap (λ l. to_z w32 (number l)) (found.3.1 [] ∙ ap (λ l. get_or l i []) chunks.front ∙ chunk_at _ i s within)
+    ∙ ap (λ l. to_z w32 (number l)) (ap (λ l. get_or l i []) chunks.front ∙ chunk_at _ i s within)
     ∙ sym (sample_at_in s i within)
 
-pub returns-in-None : goal.returns-in-None
-returns-in-None c = sym (sample_at_past c.args.stretch.now c.args.i (omega (arith, c.in-None.ensures.lookup.3, c.as_chunks.ensures.front_len)))
+pub returns-else-i-samples : goal.returns-else-i-samples
+returns-else-i-samples c = sym (sample_at_past c.args.stretch.now c.args.i (omega (arith, c.if-i-samples.false, c.as_chunks.ensures.front_len)))

@@ -1,20 +1,26 @@
 -- The first result that is too large.
-use Rattle.std.proofs.Common.{rules, arith, ◌≤◌, ◌<◌, ℕ, length, nat_abs, lt-ltb, le-ltb}
+use Rattle.std.proofs.Common.{rules, arith, ◌≡◌, length, nat_abs, lt-ltb, le-ltb}
 use Rattle.meaning.specs.Extension.{at}
-use Rattle.theory.specs.Places.{all_found, all_done}
+use Rattle.theory.specs.Places.{all_start, all_next, all_found, all_done}
+use Rattle.outputs.proofs.inner.results_allowed.Invariants.{large}
 use Rattle.outputs.proofs.inner.results_allowed.Goals as goal
 
-pub returns-in-Some : goal.returns-in-Some
-returns-in-Some c =
-    let r = c.args.results.now in
-    let i = c.in-Some.position in
-    let below : (k : ℕ) → k < i → nat_abs (at r k) ≤ c.args.limit = search rules in
-    let here : c.args.limit < nat_abs (at r i) = search rules in
-    let within : i < length r = search rules in
-    all_found 12 (length r) _ i within (lt-ltb _ _ here) (λ k l. le-ltb _ _ (below k l))
+pub loop-position-init : goal.loop-position-init
+loop-position-init c = all_start 12 (length c.args.results.now) (large c.args.limit c.args.results.now)
 
-pub returns-in-None : goal.returns-in-None
-returns-in-None c =
-    let r = c.args.results.now in
-    let below : (k : ℕ) → k < length r → nat_abs (at r k) ≤ c.args.limit = search rules in
-    all_done 12 (length r) _ (length r) (omega arith) (λ k l. le-ltb _ _ (below k l))
+pub returns-then-limit-unsigned_abs : goal.returns-then-limit-unsigned_abs
+returns-then-limit-unsigned_abs c =
+    let a = c.args in
+    let i = c.loop-position.position in
+    let s : c.unsigned_abs.result ≡ nat_abs (at a.results.now i) = search rules in
+    all_found 12 (length a.results.now) (large a.limit a.results.now) i (omega arith) (lt-ltb a.limit (nat_abs (at a.results.now i)) (rw (← s) c.if-limit-unsigned_abs.true)) c.loop-position.invariant
+
+pub loop-position-preserved : goal.loop-position-preserved
+loop-position-preserved c =
+    let a = c.args in
+    let i = c.loop-position.position in
+    let s : c.unsigned_abs.result ≡ nat_abs (at a.results.now i) = search rules in
+    all_next {t = large a.limit a.results.now} c.loop-position.invariant (le-ltb a.limit (nat_abs (at a.results.now i)) (rw (← s) c.if-limit-unsigned_abs.false))
+
+pub returns : goal.returns
+returns c = let a = c.args in all_done 12 (length a.results.now) (large a.limit a.results.now) c.loop-position.position (omega arith) c.loop-position.invariant
