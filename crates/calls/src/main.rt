@@ -21,7 +21,7 @@ const MOST_CALLS: u64 = 1000000;
 
 fn main(rt: HostRuntime) -> io::Result<()> {
     let alloc = rt.alloc();
-    // What is given back once is kept for blocks up to its size, where the system else would make each call's slices anew.
+    // Taken and given back once, so that the C library keeps what the calls give back: else each call would get fresh pages. Without it nothing fails.
     let _ = Vec::<u8>::with_capacity(alloc, MOST_LENT);
     let from = BufReader::with_capacity(alloc, MOST_HELD, rt.reader())?;
     let to = BufWriter::new(alloc, io::writer(&rt))?;

@@ -9,7 +9,7 @@ ghost use Rattle.outputs.specs.Ready.{Passed};
 pub use crate::quotients::Quotients;
 use plan::{Plan, Raster, Refusal};
 
-// Row 12: the first result whose size is above the limit. No `position`, which reads a slice by an `Option` of a reference: the reason stands at `tap_at` of `taps`.
+// Row 12: the first result whose size is above the limit. No `position`, which reads a slice by an `Option` of a reference to a cell: the reason stands at `tap_at` of `taps`.
 pub fn results_allowed(limit: u64, results: &[i64]) -> Result<(), Refusal>
     ensures { answer_of result ≡ R.first_of (R.row_at 12 (length results.now) (λ i. R.above limit (at results.now i)) ∷ []) }
 {

@@ -10,7 +10,7 @@ use crate::Summary;
 use outputs::inner::Quotients;
 
 // The first result that none beats, and its index.
-// No `min_by`, which reads a slice by an `Option` of a reference: the reason stands at `tap_at` of `taps`.
+// No `min_by`, which reads a slice by an `Option` of a reference to a cell: the reason stands at `tap_at` of `taps`.
 fn first<F: Fn(i64, i64) -> bool>(results: &[i64], beats: F) -> (usize, i64)
     requires some { least ≤ length results.now }
     requires callable { (x y : ℤ) → F.pre beats x y }

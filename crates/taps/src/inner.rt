@@ -31,7 +31,7 @@ pub fn tap_count(plan: Plan) -> usize
     plan.reach() as usize + 1
 }
 
-// The tap at i, 0 past the last. No `get`: an `Option` of a reference lies otherwise where a pointer has 32 bits.
+// The tap at i, 0 past the last. No `get`: an `Option` of a reference to a cell lies otherwise where a pointer has 32 bits.
 fn tap_at(taps: &[i64], i: usize) -> i64
     ensures { result ≡ at taps.now i }
 {
