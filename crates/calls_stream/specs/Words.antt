@@ -1,8 +1,8 @@
 -- Words read off what is left of the input.
 --   Takes old new n        n is the number of the first eight bytes, high byte first, and what is left after them is new
 --   TakesAll old new ns    so it is of the words ns, one after the other
---   Taken read old new i xs   so it is of i words, and xs is what `read` makes of each
---   Reads read old new xs  so it is of the number of the elements xs, and then of as many words, of which `read` makes them
+--   Taken read old new i xs   i words are read one after the other, and xs is what `read` makes of each
+--   Reads read old new xs  a count is read, and then as many words, of which `read` makes xs
 --   plan_words p, raster_words r   the four words of a plan, the eleven of a raster
 -- Laws: taken_on (words read after others); taken_more (a word more); reads_taken (a number, and then as many words).
 use Rattle.std.specs.Prelude.{◌≡◌, refl, ℕ, ◌+◌, List, [], ◌∷◌, ◌++◌, length, map, Option}

@@ -18,6 +18,7 @@ fn first<F: Fn(i64, i64) -> bool>(results: &[i64], beats: F) -> (usize, i64)
 {
     let mut at = 0;
     let mut best = results[0];
+    // by index: the first is the best to begin with
     for i in 1..results.len() {
         let z = results[i];
         if beats(z, best) {
